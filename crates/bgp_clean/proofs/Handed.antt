@@ -9,7 +9,7 @@ use Rattle.bgp_clean.proofs.Prelude.{Lesson, AreNoLonger, AreUnchanged, announce
 use Rattle.bgp_clean.proofs.Prelude.{none-some, same_Some}
 use Rattle.bgp_clean.proofs.Understood.{understood_good}
 use Rattle.bgp_frame.specs.Frame as frame
-use Rattle.bgp_frame.proofs.Headers.{below_4097}
+use Rattle.bgp_frame.proofs.Headers.{below_limit}
 use Rattle.bgp_open.proofs.Readings.{reading-spells}
 use Rattle.bgp_msg.specs.Prelude.{canonical}
 use Rattle.bgp_msg.proofs.Itself.{valid-itself}
@@ -20,6 +20,8 @@ use Rattle.bgp_clean.proofs.Lessons.{both-none, lesson-ended, none-gone, with_re
 use Rattle.bgp_clean.proofs.CleanedOpens.{read-ranges, cleaned-ranges, cleaned-shorter, cleaned-again, cleaned-lacks_none, cleaned-peer_as}
 use Rattle.bgp_clean.proofs.Withdrawals.{withdrawal-written, withdrawal-can, gone-can, nlri-can, reached-can}
 use Rattle.bgp_clean.proofs.Announcing.{nlri-part-can, reached-part-can, left-true}
+use Rattle.bgp_frame.specs.Kind.{plain}
+use Rattle.bgp_frame.specs.steps.AreTypes.{plain-are}
 
 abbrev ok : List Message → Result (List Message) CleanFault
 ok ns = Ok ns
@@ -43,18 +45,18 @@ module _ (ctx : Context) (drops : ℕ → Bool) (refuses : Update → Bool) (k :
   m = framed k body
 
   long : length octets ≡ 19 + length body
-  long = length-IsFrame m octets f
+  long = length-IsFrame plain plain-are m octets f
 
   short : length body ≤ 4077
-  short = omega (arith, long, below_4097 k (length octets) f.allowed)
+  short = omega (arith, long, below_limit plain plain-are k (length octets) f.allowed)
 
   body-octets : AreOctets body
   body-octets = AreOctets-back (header k (19 + length body)) body (subst AreOctets f.octets are)
 
   is-written : (n : Message) → HasMessageRanges n → invalid_of ctx n ≡ None → length (body_of ctx n) ≤ length body → IsWritten ctx m n
   is-written n ranges valid le = record {
-    taken = valid-itself ctx n ranges valid (omega (arith, length-octets_of (written ctx n), short));
-    no_longer = omega (arith, length-octets_of (written ctx n), length-octets_of m);
+    taken = valid-itself ctx n ranges valid (omega (arith, length-octets_of plain plain-are (written ctx n), short));
+    no_longer = omega (arith, length-octets_of plain plain-are (written ctx n), length-octets_of plain plain-are m);
   }
 
   -- cleaned again it is what goes on of it, and what is learned of it is what it says

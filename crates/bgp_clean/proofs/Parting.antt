@@ -8,10 +8,12 @@ use Rattle.bgp_clean.specs.Limits.{breaks, leaves_no_room}
 use Rattle.bgp_clean.specs.steps.Written.{updates_octets}
 use Rattle.bgp_clean.proofs.Ends.{with_unreach, unreach-list}
 use Rattle.std.proofs.lemmas.Bool.{lt-ltb}
+use Rattle.bgp_frame.specs.Kind.{plain}
+use Rattle.bgp_frame.specs.steps.AreTypes.{plain-are}
 
 -- an UPDATE as a whole message
 pub update_long : (ctx : Context) (u : Update) → length (updates_octets ctx (u ∷ [])) ≡ 19 + length (written_body ctx u)
-update_long ctx u = ap length (append-nil (octets_of (written ctx (Message.Update u)))) ∙ length-octets_of (written ctx (Message.Update u))
+update_long ctx u = ap length (append-nil (octets_of (written ctx (Message.Update u)))) ∙ length-octets_of plain plain-are (written ctx (Message.Update u))
 
 -- ---- what goes on of an announcement
 

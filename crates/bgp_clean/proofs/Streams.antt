@@ -8,6 +8,8 @@ use Rattle.bgp_frame.specs.Frame as frame
 use Rattle.bgp_frame.specs.Stream as stream
 use Rattle.bgp_msg.specs.Prelude.{canonical}
 use Rattle.bgp_clean.proofs.Handed.{handed-clean}
+use Rattle.bgp_frame.specs.Kind.{plain}
+use Rattle.bgp_frame.specs.steps.AreTypes.{plain-are}
 
 module _ (ctx : Context) (drops : ℕ → Bool) (refuses : Update → Bool) where
   -- messages that are unchanged, and others after them
@@ -69,7 +71,7 @@ module _ (ctx : Context) where
   told (n ∷ ns) taken = ap₂ (λ (o : Outcome) (os : List (ℕ × Outcome)). (length (canonical ctx n), o) ∷ os) (sym (taken.0).taken) (told ns taken.1)
 
   waits : Waits []
-  waits = omega (arith, (wanted-bounds []).0)
+  waits = omega (arith, (wanted-bounds plain plain-are []).0)
 
   gives : (ns : List Message) → AllByRecursion (IsTakenAsItself ctx) ns → stream.Gives (stream_rules ctx) (flat_map (canonical ctx) ns) (map (outcome_of ctx) ns) (End.Wait 0)
   gives ns taken = record {

@@ -5,6 +5,8 @@ use Rattle.bgp_engine.proofs.Prelude.{Message, octets_of, IsFrame, Waits, wanted
 use Rattle.bgp_engine.proofs.Prelude.{wanted_by_head, IsFrame-wanted, is_part, first_message, first_open, open_in}
 use Rattle.std.proofs.lemmas.Bool.{lt-ltb}
 use Rattle.bgp_frame.proofs.Headers.{length-header}
+use Rattle.bgp_frame.specs.Kind.{plain}
+use Rattle.bgp_frame.specs.steps.AreTypes.{plain-are}
 
 pub waits_part : (s : List ℕ) → Waits s → is_part s ≡ true
 waits_part s waits = lt-ltb (length s) (wanted s) waits
@@ -27,7 +29,7 @@ module _ (m : Message) (frame : List ℕ) (f : IsFrame m frame) (later : List �
   body_is : drop 19 frame ≡ m.body
   body_is =
       ap (drop 19) f.octets
-      ∙ ap (λ (n : ℕ). drop n (octets_of m)) (sym (length-header m.kind (19 + length m.body)))
+      ∙ ap (λ (n : ℕ). drop n (octets_of m)) (sym (length-header plain plain-are m.kind (19 + length m.body)))
       ∙ drop-append_seam (header m.kind (19 + length m.body)) m.body
 
   pub frame_first : first_message (frame ++ later) ≡ Some m

@@ -14,9 +14,11 @@ use Rattle.std.proofs.Math.Dec.{eqb-suc-zero}
 use Rattle.bgp_frame.specs.Hearing as hearing
 use Rattle.bgp_frame.proofs.Hearings as hearings
 use Rattle.bgp_frame.proofs.Hearings.{IsHearer, content_is, taken_up}
+use Rattle.bgp_frame.specs.Kind.{plain}
+use Rattle.bgp_frame.specs.steps.AreTypes.{plain-are}
 
 pub is_hearer : {Outcome : Type 0} → IsHearer (walker {Outcome = Outcome})
-is_hearer = record { held_so = λ w held. refl; held_same = λ w. refl; held_last = λ w a b. refl; listens_so = λ w held. refl; emptied = λ w said. refl }
+is_hearer = record { types = plain-are; held_so = λ w held. refl; held_same = λ w. refl; held_last = λ w a b. refl; listens_so = λ w held. refl; emptied = λ w said. refl }
 
 -- ---- what a walk comes to is a report
 
@@ -41,7 +43,7 @@ module _ {Outcome : Type 0} (rules : Rules Outcome) where
   held_first place tally held later can =
       hearings.in_parts walker is_hearer (front place tally) held later
       ∙ ap (λ (d : Done (Walking Outcome) ℕ). hearing.behind d.actions (by_octets walker d.session later))
-      (hearings.front_by_octets walker is_hearer (front place tally) refl held nothing_waits can)
+      (hearings.front_by_octets walker is_hearer (front place tally) refl held nothing_waits plain plain-are can)
 
   reported_behind : (lines : List ℕ) (d : Done (Walking Outcome) ℕ) → reported (hearing.behind lines d) ≡ behind lines (reported d)
   reported_behind lines d = rw (append_assoc lines d.actions []) refl
@@ -75,7 +77,7 @@ module _ {Outcome : Type 0} (rules : Rules Outcome) where
           end_of = e;
           gives = gives;
           told = ap reported (held_first place tally held later can
-              ∙ ap (λ c. let d : Done (Walking Outcome) ℕ = done_by walker x (option_map (walker.comes x) c) in hearing.behind d.actions (by_octets walker d.session later)) (content_is what held is))
+              ∙ ap (λ c. let d : Done (Walking Outcome) ℕ = done_by walker x (option_map (walker.comes x) c) in hearing.behind d.actions (by_octets walker d.session later)) (content_is plain plain-are what held is))
               ∙ reported_behind (rules.line place o.0 held o.1) (by_octets walker (next (ended_by rules what)) later)
               ∙ ap (behind (rules.line place o.0 held o.1)) rest
               ∙ rw (its_octets what is, drop-drop (total rules os) (passed rules o) (held ++ later), place_is) refl;
@@ -83,19 +85,19 @@ module _ {Outcome : Type 0} (rules : Rules Outcome) where
 
     -- behind the end of a stream nothing is heard
     none_heard : (e : End) → by_octets walker (next (Some e)) later ≡ record { actions = []; session = next (Some e) }
-    none_heard e = hearings.drops_all walker is_hearer (next (Some e)) refl nothing_waits later
+    none_heard e = hearings.drops_all walker is_hearer (next (Some e)) refl nothing_waits plain plain-are later
 
   module _ (n : ℕ) (shorter : (s : List ℕ) (place : ℕ) (tally : Tally) → length s < n → AreOctets s → HasReport place tally s) (place : ℕ) (tally : Tally) (held later : List ℕ) (can : IsHeld held) where
     report_message : (m : Message) (f : IsFrame m held) → length later < n → AreOctets later → (resets : Bool) → rules.judge.resets (rules.judge.of_message m) ≡ resets → HasReport place tally (held ++ later)
     report_message m f lt octets true is =
-        report_content place tally held later can (Ok m) f [] End.Reset (gives_reset Outcome rules.judge m held later f is)
+        report_content place tally held later can (Ok m) f [] End.Reset (gives_reset plain plain-are Outcome rules.judge m held later f is)
         (ap (λ (b : Bool). reported (by_octets walker (next place tally held later can (Ok m) f (reset_if b)) later)) is ∙ ap reported (none_heard place tally held later can (Ok m) f End.Reset))
     report_message m f lt octets false on =
         let x = next place tally held later can (Ok m) f None in
         let q = shorter later x.place x.tally lt octets in
         let rest : drop (passed rules (outcome rules (Ok m))) (held ++ later) ≡ later =
         ap (λ (b : Bool). drop (if b then 0 else length (octets_of m)) (held ++ later)) on ∙ ap (λ (i : ℕ). drop i (held ++ later)) (sym (ap length f.octets)) ∙ drop-append_seam held later in
-        report_content place tally held later can (Ok m) f q.outcomes q.end_of (gives_more Outcome rules.judge m held later q.outcomes q.end_of f on q.gives)
+        report_content place tally held later can (Ok m) f q.outcomes q.end_of (gives_more plain plain-are Outcome rules.judge m held later q.outcomes q.end_of f on q.gives)
         (ap (λ (b : Bool). reported (by_octets walker (next place tally held later can (Ok m) f (reset_if b)) later)) on ∙ q.told
         ∙ ap (λ (s : List ℕ). report_of rules x.place x.tally s q.outcomes q.end_of) (sym rest))
 
@@ -105,7 +107,7 @@ module _ {Outcome : Type 0} (rules : Rules Outcome) where
         let f : HeadFault = faulty.1.0 in
         let long : 19 ≤ length (held ++ later) = omega (arith, faulty.0, length-append held later) in
         report_content place tally held later can (Err f) (faulty.0, faulty.1.1) [] End.Head
-        (gives_fault Outcome rules.judge (held ++ later) f long (head_of-append held later (omega (arith, faulty.0)) ∙ faulty.1.1))
+        (gives_fault plain plain-are Outcome rules.judge (held ++ later) f long (head_of-append held later (omega (arith, faulty.0)) ∙ faulty.1.1))
         (ap reported (none_heard place tally held later can (Err f) (faulty.0, faulty.1.1) End.Head))
 
   reports_within : (n : ℕ) (s : List ℕ) (place : ℕ) (tally : Tally) → length s < n → AreOctets s → HasReport place tally s
@@ -114,8 +116,8 @@ module _ {Outcome : Type 0} (rules : Rules Outcome) where
       elim (cases_lt (length s) (wanted s)) [
         | inl waits ↦
             let can : IsHeld s = record { octets = octets; within = omega (arith, waits) } in
-            let none = hearings.front_by_octets walker is_hearer (front place tally) refl s nothing_waits can ∙ hearings.rests walker is_hearer (walking rules s place tally None) waits in
-            record { outcomes = []; end_of = End.Wait (length s); gives = gives_wait Outcome rules.judge s waits; told = ap reported none }
+            let none = hearings.front_by_octets walker is_hearer (front place tally) refl s nothing_waits plain plain-are can ∙ hearings.rests walker is_hearer (walking rules s place tally None) waits in
+            record { outcomes = []; end_of = End.Wait (length s); gives = gives_wait plain plain-are Outcome rules.judge s waits; told = ap reported none }
         | inr long ↦
             let held : List ℕ = take (wanted s) s in
             let bounds = wanted-bounds s in
@@ -124,7 +126,7 @@ module _ {Outcome : Type 0} (rules : Rules Outcome) where
             let octets_held : AreOctets held = AreOctets-take (wanted s) s octets in
             subst (HasReport place tally) (take-append-drop (wanted s) s)
             (report_front n (reports_within n) place tally held (drop (wanted s) s) (record { octets = octets_held; within = omega arith })
-            (wanted-Stops held octets_held (omega (arith, bounds.0)) (omega arith)) (omega (arith, bounds.0, length-drop (wanted s) s)) (AreOctets-drop (wanted s) s octets))
+            (wanted-Stops plain plain-are held octets_held (omega (arith, bounds.0)) (omega arith)) (omega (arith, bounds.0, length-drop (wanted s) s)) (AreOctets-drop (wanted s) s octets))
       ]
 
   -- each stream of octets has its report
@@ -221,15 +223,15 @@ module _ {Outcome : Type 0} where
 
     stands_by : (len : ℕ) (k : Class) → 1 < len → len ≤ length w.held → (resets : Bool)
         → Stands w (walking w.rules [] (w.place + (if resets then 0 else len)) (counted w.tally len k) (reset_if resets))
-    stands_by len k some within true = (omega arith, record { waits = nothing_waits; counting = λ none. absurd cc; over = λ ended. tt })
-    stands_by len k some within false = (omega (arith, within), record { waits = nothing_waits; counting = λ none. counts_on w.rules len k some within; over = λ ended. absurd cc })
+    stands_by len k some within true = (omega arith, record { waits = nothing_waits plain plain-are; counting = λ none. absurd cc; over = λ ended. tt })
+    stands_by len k some within false = (omega (arith, within), record { waits = nothing_waits plain plain-are; counting = λ none. counts_on w.rules len k some within; over = λ ended. absurd cc })
 
     stands_judged : (what : Result Message HeadFault) → IsContent what w.held → Stands w (comes w what).1
     stands_judged (Ok m) f =
         let size = ap length f.octets in
         stands_by (length (octets_of m)) _ (omega (arith, size, length-IsFrame m w.held f)) (omega (arith, size)) (w.rules.judge.resets (w.rules.judge.of_message m))
     stands_judged (Err f) faulty =
-        (omega (arith, passed-bound (w.rules.judge.resets (w.rules.judge.of_fault f)) 0), record { waits = nothing_waits; counting = λ none. absurd cc; over = λ ended. tt })
+        (omega (arith, passed-bound (w.rules.judge.resets (w.rules.judge.of_fault f)) 0), record { waits = nothing_waits plain plain-are; counting = λ none. absurd cc; over = λ ended. tt })
 
     judges_stand : (line : List ℕ) (new : Walking Outcome) → Judges walker w line new → Stands w new
     judges_stand line new j = subst (Stands w) (sym j.leaves) (stands_judged j.what j.is_held)
@@ -265,7 +267,7 @@ module _ {Outcome : Type 0} where
     up = ap is_none unended
 
     counts : hearing.CountsFed true old.held octets n
-    counts = taken_up (is_none old.ended) old.held octets n up h.call.0.0
+    counts = taken_up plain plain-are (is_none old.ended) old.held octets n up h.call.0.0
 
     pub hears_some : 0 < length octets → 0 < n
     hears_some some = counts.1 ready.waits some
@@ -279,7 +281,7 @@ module _ {Outcome : Type 0} where
           hearings.passes walker is_hearer old octets n h.found new
           (record {
             can_hold = record { octets = c.octets; within = omega (arith, ready.waits) };
-            holds_none = λ deaf. absurd (hearings.not_both (is_none old.ended) up deaf);
+            holds_none = λ deaf. absurd (hearings.not_both plain plain-are (is_none old.ended) up deaf);
           })
           are ((hearings.feed_is_way walker is_hearer).heard old octets n h.found new h.call)
 
@@ -394,7 +396,7 @@ module _ {Outcome : Type 0} where
   -- ---- the front of a stream
 
   pub front_ready : (rules : Rules Outcome) → IsReady (front rules 0 no_tally)
-  front_ready rules = counting_ready _ (record { octets = AreOctets-nil; place = omega arith; counts = omega arith }) refl nothing_waits
+  front_ready rules = counting_ready _ (record { octets = AreOctets-nil; place = omega arith; counts = omega arith }) refl (nothing_waits plain plain-are)
 
   pub front_report : (rules : Rules Outcome) (s : List ℕ) (r : Report) → AreOctets s × reports_of (front rules 0 no_tally) s r → IsReport rules 0 no_tally s r
   front_report rules s r q = reports_report (front rules 0 no_tally) s r refl (record { octets = AreOctets-nil; within = omega arith }) q.0 q.1

@@ -18,6 +18,8 @@ use Rattle.bgp_numbers.specs.declared.TheConstants.{VERSION}
 use Rattle.bgp_frame.specs.Frame as frame
 use Rattle.bgp_fields.specs.declared.field.Span.{Span}
 use Rattle.bgp_fields.proofs.Extents.{extent-short}
+use Rattle.bgp_frame.specs.Kind.{plain}
+use Rattle.bgp_frame.specs.steps.AreTypes.{plain-are}
 
 -- ---- OPENs
 
@@ -352,7 +354,7 @@ pub reset-placed : (ctx : Context) (m : frame.Message) (octets : List ℕ) (n : 
 reset-placed ctx m octets n all is e =
     let head = header m.kind (19 + length m.body) in
     let body : AreOctets m.body = AreOctets-back head m.body (subst AreOctets is.octets all) in
-    let long = length-IsFrame m octets is in
+    let long = length-IsFrame plain plain-are m octets is in
     let resets : is_reset (out_of ctx m) ≡ true = ap is_reset e in
     subst (λ (k : ℕ). HasPlace k (reset_place ctx m)) (sym long)
     (subst (λ (t : Bool). HasPlace (19 + length m.body) (cond t (body_place ctx m.kind m.body) None)) (sym resets)

@@ -33,7 +33,7 @@ length-not true o code n e = absurd cc
 length-not false o code n e = kind-not o code n e
 
 marker-by : (h : List ℕ) (t : Bool) → has_marker h ≡ t → head_of h ≡ Err HeadFault.Marker → t ≡ false
-unfolding head_of
+unfolding head_of_in
 marker-by h false is e = refl
 marker-by h true is e =
     absurd (length-not (nat_lt (length_field h) 19 || nat_lt 4096 (length_field h)) (kind_of (type_field h)) (type_field h) (length_field h) (rw is at e))

@@ -20,7 +20,7 @@ pub use Rattle.bgp_frame.specs.declared.fault.HeadFault.{HeadFault}
 pub use Rattle.bgp_frame.specs.declared.kind.Kind.{Kind}
 pub use Rattle.bgp_frame.specs.declared.notification.Notification.{Notification}
 pub use Rattle.bgp_frame.proofs.FrameLemmas.{IsFrame-wanted, head_at, head_of-IsFrame, head_of-append, length-IsFrame, wanted-append, wanted_by_head}
-pub use Rattle.bgp_frame.proofs.HeadLemmas.{kind_of-code_of}
+pub use Rattle.bgp_frame.specs.steps.AreTypes.{kind_of-code_of}
 pub use Rattle.bgp_open.specs.Prelude.{IsCapability, IsOpen, IsParameter, as4_of, capability_of, first_fault, hold_of, id_of, is_short_hold, is_zero_id, length_of, multi_of, one_capability, one_parameter, open_of, or_fault, parameters_of, reading_of, rest_fault, version_of}
 unfoldable pub use Rattle.bgp_open.specs.Prelude.{open_fault}
 pub use Rattle.bgp_open.specs.declared.capability.Capability.{Capability}

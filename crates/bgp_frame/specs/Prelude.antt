@@ -13,5 +13,5 @@ pub use Rattle.bgp_frame.specs.Takes.{Stops, StopsIn, Takes, TakesIn}
 pub use Rattle.bgp_frame.specs.Framer.{FramerValue, IsHeld, IsHeldIn}
 pub use Rattle.bgp_frame.specs.Step.{Frame, FrameIn, ShowsFront, ShowsFrontIn, ShowsStep, ShowsStepIn, Step, StepIn, message_in}
 pub use Rattle.bgp_frame.specs.Pull.{IsPull, IsPullIn, IsToFeed, IsToFeedIn, Pull, PullIn, Pulls, PullsIn}
-pub use Rattle.bgp_frame.specs.Stream.{EndsBy, Gives, GoesOn, HasOneReading, StreamRules, as_it_is, as_it_is_in, outcome_of}
+pub use Rattle.bgp_frame.specs.Stream.{EndsBy, EndsByIn, Gives, GivesIn, GoesOn, HasOneReading, HasOneReadingIn, StreamRules, StreamRulesIn, as_it_is, outcome_of, outcome_of_in}
 pub use Rattle.bgp_frame.specs.Hearing.{Calls, CanBeHeard, CountsFed, CountsFedIn, Done, Hearer, IsAtRest, IsContent, IsContentIn, IsFed, IsFedAndJudged, IsPulled, IsReady, Judges, PullsNext, Run, Runs, Way, all_octets, behind, behind_feed, by_feed, by_octet, by_octets, done_by, given, judged, left_to_do, one_if_any, settled, weight, with_octet}

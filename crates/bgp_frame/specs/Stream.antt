@@ -11,19 +11,14 @@ use Rattle.bgp_frame.specs.Kind.{plain}
 use Rattle.bgp_frame.specs.Head.{head_of_in}
 use Rattle.bgp_frame.specs.Frame.{Message, MessageIn, octets_of_in, IsFrameIn, WaitsIn}
 
--- how messages and faults of a grammar are judged: the outcome of each, and which outcomes end the stream
-pub record StreamRules (K Outcome : Type 0) : Type 0 where
-  pub types : Types K
+-- how messages and faults are judged: the outcome of each, and which outcomes end the stream
+pub record StreamRulesIn (K Outcome : Type 0) : Type 0 where
   pub of_message : MessageIn K → Outcome
   pub of_fault : HeadFault → Outcome
   pub resets : Outcome → Bool
 
-module _ {K Outcome : Type 0} (rules : StreamRules K Outcome) where
-  -- a message's octets in number, and what comes of it
-  abbrev pub outcome_of : MessageIn K → ℕ × Outcome
-  outcome_of m = (length (octets_of_in rules.types m), rules.of_message m)
-
-  -- the stream goes on behind the message
+module _ {K Outcome : Type 0} (rules : StreamRulesIn K Outcome) where
+  -- the stream goes on after the message
   abbrev pub GoesOn : MessageIn K → Type 0
   GoesOn m = rules.resets (rules.of_message m) ≡ false
 
@@ -35,45 +30,64 @@ module _ {K Outcome : Type 0} (rules : StreamRules K Outcome) where
     pub go_on : AllByRecursion GoesOn earlier
     pub reset : rules.resets (rules.of_message last) ≡ true
 
-  -- all of the messages let the stream go on, and the header behind them has a fault
+module _ {K Outcome : Type 0} (ty : Types K) (rules : StreamRulesIn K Outcome) where
+  -- a message's length, and its outcome
+  abbrev pub outcome_of_in : MessageIn K → ℕ × Outcome
+  outcome_of_in m = (length (octets_of_in ty m), rules.of_message m)
+
+  -- all of the messages let the stream go on, and the header after them has a fault
   pub record EndsAtHead (messages : List (MessageIn K)) (rest : List ℕ) (outcomes : List (ℕ × Outcome)) : Type 0 where
-    pub go_on : AllByRecursion GoesOn messages
+    pub go_on : AllByRecursion (GoesOn rules) messages
     pub has_header : 19 ≤ length rest
     pub fault : HeadFault
-    pub faulty : head_of_in rules.types rest ≡ Err fault
-    pub told : outcomes ≡ map outcome_of messages ++ (0, rules.of_fault fault) ∷ []
+    pub faulty : head_of_in ty rest ≡ Err fault
+    pub told : outcomes ≡ map outcome_of_in messages ++ (0, rules.of_fault fault) ∷ []
 
-  -- all of the messages let the stream go on, and n octets behind them wait for the rest of theirs
+  -- all of the messages let the stream go on, and n octets of an incomplete message follow
   pub record EndsWaiting (messages : List (MessageIn K)) (rest : List ℕ) (outcomes : List (ℕ × Outcome)) (n : ℕ) : Type 0 where
-    pub go_on : AllByRecursion GoesOn messages
-    pub waits : WaitsIn rules.types rest
+    pub go_on : AllByRecursion (GoesOn rules) messages
+    pub waits : WaitsIn ty rest
     pub count : n ≡ length rest
-    pub told : outcomes ≡ map outcome_of messages
+    pub told : outcomes ≡ map outcome_of_in messages
 
-  abbrev pub EndsBy : List (MessageIn K) → List ℕ → List (ℕ × Outcome) → End → Type 0
-  EndsBy messages rest outcomes end.Reset = EndsAtReset messages × (outcomes ≡ map outcome_of messages)
-  EndsBy messages rest outcomes end.Head = EndsAtHead messages rest outcomes
-  EndsBy messages rest outcomes (end.Wait n) = EndsWaiting messages rest outcomes n
+  abbrev pub EndsByIn : List (MessageIn K) → List ℕ → List (ℕ × Outcome) → End → Type 0
+  EndsByIn messages rest outcomes end.Reset = EndsAtReset rules messages × (outcomes ≡ map outcome_of_in messages)
+  EndsByIn messages rest outcomes end.Head = EndsAtHead messages rest outcomes
+  EndsByIn messages rest outcomes (end.Wait n) = EndsWaiting messages rest outcomes n
 
   -- the stream is messages and a rest: these come of it, and so it ends
-  pub record Gives (stream : List ℕ) (outcomes : List (ℕ × Outcome)) (end_of : End) : Type 0 where
+  pub record GivesIn (stream : List ℕ) (outcomes : List (ℕ × Outcome)) (end_of : End) : Type 0 where
     pub messages : List (MessageIn K)
     pub row : List ℕ
     pub rest : List ℕ
     pub whole : stream ≡ row ++ rest
-    pub frames : Row (IsFrameIn rules.types) messages row
-    pub ends : EndsBy messages rest outcomes end_of
+    pub frames : Row (IsFrameIn ty) messages row
+    pub ends : EndsByIn messages rest outcomes end_of
 
   -- one list of outcomes and one end are the stream's, and no others
-  pub record HasOneReading (stream : List ℕ) : Type 0 where
+  pub record HasOneReadingIn (stream : List ℕ) : Type 0 where
     pub outcomes : List (ℕ × Outcome)
     pub end_of : End
-    pub gives : Gives stream outcomes end_of
-    pub only : (others : List (ℕ × Outcome)) (other : End) → Gives stream others other → (others ≡ outcomes) × (other ≡ end_of)
+    pub gives : GivesIn stream outcomes end_of
+    pub only : (others : List (ℕ × Outcome)) (other : End) → GivesIn stream others other → (others ≡ outcomes) × (other ≡ end_of)
 
 -- the rules that hand on each message and each fault as it is: what comes of them by other rules is a function of it
-abbrev pub as_it_is_in : {K : Type 0} → Types K → (Result (MessageIn K) HeadFault → Bool) → StreamRules K (Result (MessageIn K) HeadFault)
-as_it_is_in ty resets = record { types = ty; of_message = λ m. Ok m; of_fault = λ f. Err f; resets = resets }
+abbrev pub as_it_is : {K : Type 0} → (Result (MessageIn K) HeadFault → Bool) → StreamRulesIn K (Result (MessageIn K) HeadFault)
+as_it_is resets = record { of_message = λ m. Ok m; of_fault = λ f. Err f; resets = resets }
 
-abbrev pub as_it_is : (Result Message HeadFault → Bool) → StreamRules Kind (Result Message HeadFault)
-as_it_is = as_it_is_in plain
+-- ---- by the types of RFC 4271
+
+abbrev pub StreamRules : Type 0 → Type 0
+StreamRules Outcome = StreamRulesIn Kind Outcome
+
+abbrev pub outcome_of : {Outcome : Type 0} → StreamRules Outcome → Message → ℕ × Outcome
+outcome_of = outcome_of_in plain
+
+abbrev pub EndsBy : {Outcome : Type 0} → StreamRules Outcome → List Message → List ℕ → List (ℕ × Outcome) → End → Type 0
+EndsBy = EndsByIn plain
+
+abbrev pub Gives : {Outcome : Type 0} → StreamRules Outcome → List ℕ → List (ℕ × Outcome) → End → Type 0
+Gives = GivesIn plain
+
+abbrev pub HasOneReading : {Outcome : Type 0} → StreamRules Outcome → List ℕ → Type 0
+HasOneReading = HasOneReadingIn plain

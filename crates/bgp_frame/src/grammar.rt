@@ -132,3 +132,43 @@ impl Grammar for WideGrammar {
         WideKind::Base(Kind::Update)
     }
 }
+
+#[cfg(test)]
+mod tests {
+    use crate::fault::HeadFault;
+    use crate::framer_of::FramerOf;
+    use crate::grammar::WideGrammar;
+    use crate::kind::WideKind;
+    use crate::step::{Frame, Step, front};
+    use std::test::*;
+
+    const REFRESH: [u8; 23] = [
+        255, 255, 255, 255, 255, 255, 255, 255, 255, 255, 255, 255, 255, 255, 255, 255, 0, 23, 5, 0,
+        1, 0, 1,
+    ];
+
+    #[test]
+    fn a_refresh_that_is_agreed_on_is_a_message(rt: HostRuntime) {
+        let grammar = WideGrammar {
+            refresh: true,
+            long: false,
+        };
+        let mut framer: FramerOf<WideGrammar, 4096> = FramerOf::empty(grammar);
+        assert!(rt; framer.feed(&REFRESH[..22]) == 22);
+        assert!(rt; framer.feed(&REFRESH[22..]) == 1);
+        let is_refresh = match framer.step() {
+            Step::Frame(Frame { kind, body, .. }) => kind == WideKind::Refresh && body.len() == 4,
+            _ => false,
+        };
+        assert!(rt; is_refresh);
+    }
+
+    #[test]
+    fn one_that_is_not_is_a_bad_message_type(rt: HostRuntime) {
+        let faults = match front(&REFRESH) {
+            Step::Fault(fault) => fault == HeadFault::Kind(5),
+            _ => false,
+        };
+        assert!(rt; faults);
+    }
+}

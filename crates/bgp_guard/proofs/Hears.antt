@@ -11,6 +11,8 @@ use Rattle.bgp_frame.specs.Frame as frame
 use Rattle.bgp_frame.proofs.FrameLemmas.{wanted-append, wanted-bounds}
 use Rattle.bgp_guard.proofs.Lanes.{Alive, alive_ends, alive_held, alive_on, alive_open, kept_push, notified, open_same, opened_push, place_same, refit}
 use Rattle.bgp_guard.proofs.Passed.{open_by}
+use Rattle.bgp_frame.specs.Kind.{plain}
+use Rattle.bgp_frame.specs.steps.AreTypes.{plain-are}
 
 -- ---- what is held
 
@@ -22,8 +24,8 @@ held_more held octet is waits small =
       octets = AreOctets-append held (octet ∷ []) is.octets (one small);
       within =
           elim (cases_lt (length held) 19) [
-            | inl short ↦ let bounds = wanted-bounds (held ++ octet ∷ []) in omega (arith, bounds.0, all, short)
-            | inr long ↦ let e = wanted-append held (octet ∷ []) long in omega (arith, all, e, waits)
+            | inl short ↦ let bounds = wanted-bounds plain plain-are (held ++ octet ∷ []) in omega (arith, bounds.0, all, short)
+            | inr long ↦ let e = wanted-append plain plain-are held (octet ∷ []) long in omega (arith, all, e, waits)
           ];
     }
   where
@@ -153,11 +155,11 @@ module _ (rules theirs : Rules) (silent others : Bool) (n : ℕ) (this other : H
   by_content : octet < 256 → (c : Option (Result frame.Message HeadFault)) → content_of (this.held ++ octet ∷ []) ≡ c
       → Goes rules theirs silent others (seen (heard_as rules silent (holding sight (this.held ++ octet ∷ [])) c))
   by_content small None e = record {
-    this = alive_held rules silent octet this.held this.peer other.peer t.came o.given other.way a (held_more this.held octet a.can_hold a.waits small) (none_waits (λ c. c) (this.held ++ octet ∷ []) (ap (option_map (λ c. c)) e));
+    this = alive_held rules silent octet this.held this.peer other.peer t.came o.given other.way a (held_more this.held octet a.can_hold a.waits small) (none_waits plain plain-are (λ c. c) (this.held ++ octet ∷ []) (ap (option_map (λ c. c)) e));
     other = b;
   }
   by_content small (Some (Ok m)) e =
-      by_place m (content_of-message m (this.held ++ octet ∷ []) (held_more this.held octet a.can_hold a.waits small) e) (misplaced free m.kind) refl
+      by_place m (content_of-message plain plain-are m (this.held ++ octet ∷ []) (held_more this.held octet a.can_hold a.waits small) e) (misplaced free m.kind) refl
   by_content small (Some (Err fault)) e = answered_goes (reset_by (head_notification fault))
 
   pub heard_goes : octet < 256 → Goes rules theirs silent others (seen (heard rules silent (holding sight (this.held ++ octet ∷ []))))

@@ -11,6 +11,8 @@ use Rattle.bgp_wire.proofs.Rows.{Row-push}
 use Rattle.bgp_frame.specs.Frame as frame
 use Rattle.bgp_update.proofs.Lists.{all-append}
 use Rattle.bgp_guard.proofs.Keepalives.{with_more, with_one}
+use Rattle.bgp_frame.specs.Kind.{plain}
+use Rattle.bgp_frame.specs.steps.AreTypes.{plain-are}
 
 -- ---- what is handed on of a message depends on little
 
@@ -258,8 +260,8 @@ module _ (rules : Rules) (silent : Bool) where
         row = a.row ++ grown;
         whole = whole_row;
         frames = frames_row;
-        can_hold = IsHeld_nil;
-        waits = nothing_waits;
+        can_hold = IsHeld_nil plain plain-are;
+        waits = nothing_waits plain plain-are;
         opened = opened;
         hands = λ c fits. subst (λ (x : Context). Given kept x (a.messages ++ m ∷ []) (given ++ sent ctx)) (sym (fits both)) (pushed is);
         none = all-append IsNoNotification a.messages (m ∷ []) a.none (silent_kind, tt);
@@ -315,8 +317,8 @@ module _ (rules : Rules) (silent : Bool) where
       row = a.row ++ (held ++ octet ∷ []);
       whole = whole_row held None others came given way a octet m (Message.Open o ∷ []) f;
       frames = frames_row held None others came given way a octet m (Message.Open o ∷ []) f;
-      can_hold = IsHeld_nil;
-      waits = nothing_waits;
+      can_hold = IsHeld_nil plain plain-are;
+      waits = nothing_waits plain plain-are;
       opened = record { first = m; later = []; is = alone; value = o; handed = handed; says = refl };
       hands = λ d fits. first_given c d;
       none = all-append IsNoNotification a.messages (m ∷ []) a.none (λ e. absurd cc, tt);

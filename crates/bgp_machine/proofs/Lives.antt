@@ -17,6 +17,8 @@ use Rattle.bgp_update.specs.declared.verdict.Verdict.{Verdict}
 use Rattle.bgp_machine.specs.declared.timer.Timers.{Timers}
 use Rattle.bgp_machine.specs.Life.{Looked}
 use Rattle.bgp_machine.proofs.Cuttings.{is_hearer, looks_pull, pulls_as_fed}
+use Rattle.bgp_frame.specs.Kind.{plain}
+use Rattle.bgp_frame.specs.steps.AreTypes.{plain-are}
 
 -- the octets are an OPEN that was accepted and gave the context, and what is held
 record BeginsByOpen (s : Settings) (context : Option Context) (held octets : List ℕ) : Type 0 where
@@ -123,7 +125,7 @@ module _ (s : Settings) (ctx : Option Context) (peer : Option Said) (running : T
 
   no_body : (body : List ℕ) → IsFrame (record { kind = Kind.Keepalive; body = body }) held → body ≡ []
   no_body body frame =
-      let long = length-IsFrame (record { kind = Kind.Keepalive; body = body }) held frame in
+      let long = length-IsFrame plain plain-are (record { kind = Kind.Keepalive; body = body }) held frame in
       let most = frame.allowed.most in
       nil_from_length body (omega arith)
 
@@ -157,7 +159,7 @@ module _ (s : Settings) (ctx : Option Context) (peer : Option Said) (running : T
 
   hears_keeps : (st : State) (what : Result Message HeadFault) (taken : List ℕ) → IsHeld held → content_of held ≡ Some what
       → Stands s st ctx held taken → StandsEmptied taken (hears s (at st) what)
-  hears_keeps st (Ok m) taken is content h = message_keeps st m.kind m.body taken (content_of-message m held is content) h
+  hears_keeps st (Ok m) taken is content h = message_keeps st m.kind m.body taken (content_of-message plain plain-are m held is content) h
   hears_keeps State.Idle (Err f) taken is content h = refl
   hears_keeps State.Connect (Err f) taken is content h = refl
   hears_keeps State.Active (Err f) taken is content h = refl
@@ -175,7 +177,7 @@ record Sound (s : Settings) (a : Life) : Type 0 where
 
 kept_held : (up : Bool) (held : List ℕ) → IsHeld held → IsHeld (kept up held)
 kept_held true held is = is
-kept_held false held is = IsHeld_nil
+kept_held false held is = IsHeld_nil plain plain-are
 
 told_keeps : (s : Settings) (a : Life) (e : Event) → Sound s a → Sound s (told a e)
 told_keeps s a e sound =
@@ -193,7 +195,7 @@ judged_keeps s a (Some what) sound is =
     let x = a.session.standing in
     record {
       settings = sound.settings;
-      can_hold = IsHeld_nil;
+      can_hold = IsHeld_nil plain plain-are;
       stands = subst (λ (t : Settings). Stands s (hears t x what).next.state (hears t x what).next.context [] a.taken) (sym sound.settings)
           (hears_keeps s x.context x.peer x.running a.session.held x.state what a.taken sound.can_hold is sound.stands);
     }
@@ -262,6 +264,6 @@ lives_keep s a (call ∷ later) b sound lives = lives_keep s lives.0 later b (go
 pub established_behind : (s : Settings) (calls : List Call) (life : Life) → Lives (born s) calls life
     → life.session.standing.state ≡ State.Established → BeginsByOpenAndKeepalive s life.session.standing.context life.taken
 established_behind s calls life lives up =
-    let sound = lives_keep s (born s) calls life (record { settings = refl; can_hold = IsHeld_nil; stands = refl }) lives in
+    let sound = lives_keep s (born s) calls life (record { settings = refl; can_hold = IsHeld_nil plain plain-are; stands = refl }) lives in
     let x = life.session in
     subst (λ (st : State). Stands s st x.standing.context x.held life.taken) up sound.stands

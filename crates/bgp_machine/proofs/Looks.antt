@@ -5,11 +5,13 @@ use Rattle.bgp_machine.proofs.Prelude.{content_of-fault, Settings, Action, Heard
 use Rattle.bgp_machine.proofs.Prelude.{step_of, Finds, Standing, listens, Step, hears, Machine, holding, hearer, IsFed, IsJudged, HeldTakesMemory, IsPulled}
 use Rattle.bgp_machine.proofs.Prelude.{FrontTakesMemory, Looked}
 use Rattle.arrayvec.specs.ArrayVec.{ArrayVec}
-use Rattle.bgp_frame.specs.declared.step.Frame.{Frame}
-use Rattle.bgp_frame.specs.declared.pull.Pull.{Pull}
+use Rattle.bgp_frame.specs.Step.{Frame}
+use Rattle.bgp_frame.specs.Pull.{Pull}
 use Rattle.bgp_frame.proofs.Pulls.{held_or_front}
 use Rattle.bgp_frame.proofs.Hearings as hearings
 use Rattle.bgp_machine.proofs.Cuttings.{is_hearer, pulls_as_fed}
+use Rattle.bgp_frame.specs.Kind.{plain}
+use Rattle.bgp_frame.specs.steps.AreTypes.{plain-are}
 
 same_content : (m other : Message) (o : Option (Result Message HeadFault)) → o ≡ Some (Ok m) → o ≡ Some (Ok other) → m ≡ other
 same_content m other o is also = let same : Some (Ok m) ≡ Some (Ok other) = sym is ∙ also in cc
@@ -37,7 +39,7 @@ module _ (s : Settings) (x : Standing) (held piece : List ℕ) (n : ℕ) (h : He
 
   memory : Pulls held piece n → HeldTakesMemory (holding me octets) → HeldTakesMemory me ⊎ FrontTakesMemory me piece
   memory is takes =
-      elim (held_or_front held piece n (λ b. HeldTakesMemory (holding me b)) is takes) [
+      elim (held_or_front plain plain-are held piece n (λ b. HeldTakesMemory (holding me b)) is takes) [
         | inl p ↦ inl p.1
         | inr p ↦ inr (record { none_held = p.0; n = n; within = is.takes.within; takes = p.1 })
       ]
@@ -45,7 +47,7 @@ module _ (s : Settings) (x : Standing) (held piece : List ℕ) (n : ℕ) (h : He
   pub finds_message : (frame : Frame) → IsPull held piece (Pull.Frame n frame) → Hears s x (record { kind = frame.kind; body = frame.body.now }) h → Finds me piece looked
   finds_message frame found is =
       let m : Message = record { kind = frame.kind; body = frame.body.now } in
-      let content = content_of-frame m octets found.1.0 in
+      let content = content_of-frame plain plain-are m octets found.1.0 in
       record {
         same = refl;
         pulls = pulls (Ok m) found.0 is.up found.1.0 is.does;
@@ -56,7 +58,7 @@ module _ (s : Settings) (x : Standing) (held piece : List ℕ) (n : ℕ) (h : He
 
   pub finds_fault : (f : HeadFault) → IsPull held piece (Pull.Fault n f) → HearsFault x f h → Finds me piece looked
   finds_fault f found is =
-      let content = content_of-fault octets f found.1.0 found.1.1 in
+      let content = content_of-fault plain plain-are octets f found.1.0 found.1.1 in
       record {
         same = refl;
         pulls = pulls (Err f) found.0 is.up found.1 (is.does s);
@@ -89,7 +91,7 @@ judged_by_pull old n actions new p = hearings.judged_by_pull hearer is_hearer ol
 pub held_waits : (old : Machine) → (listens old.standing.state ≡ false → old.held ≡ []) → ((n : ℕ) (new : Machine) → IsFed old [] n new → IsPulled old [] n None new) → Waits old.held
 held_waits old deaf found =
     hearings.pull_waits hearer is_hearer old [] 0 old deaf
-    (found 0 old (hearings.counts_nothing (listens old.standing.state) old.held, sym (hearings.took_none hearer is_hearer old [] 0 refl)))
+    (found 0 old (hearings.counts_nothing plain plain-are (listens old.standing.state) old.held, sym (hearings.took_none hearer is_hearer old [] 0 refl)))
 
 none_rests : (old : Machine) (piece : List ℕ) (n : ℕ) (new : Machine) → (Waits new.held → IsAtRest new) → (listens new.standing.state ≡ false → new.held ≡ [])
     → IsPulled old piece n None new → n ≡ 0 → IsAtRest new

@@ -5,6 +5,8 @@ use Rattle.bgp_machine.proofs.Prelude.{content_stops, not_whole, judged_empty, e
 use Rattle.std.proofs.lemmas.List.{append-nil}
 use Rattle.bgp_wire.specs.Prelude.{AreOctets}
 use Rattle.bgp_machine.proofs.Cuttings.{is_hearer}
+use Rattle.bgp_frame.specs.Kind.{plain}
+use Rattle.bgp_frame.specs.steps.AreTypes.{plain-are}
 
 -- of two steps the second gives nothing, since the first leaves nothing held
 pub one_gives : (n : ℕ) (x : Machine) (actions : List Action) (y : Machine) → StepsUntilNone (suc n) x actions y → Judges hearer x actions y
@@ -14,7 +16,7 @@ one_gives zero x actions y s =
 one_gives (suc n) x actions y s =
     let none : s.between.held ≡ [] = judged_empty hearer is_hearer x s.first s.between s.gives in
     let second = s.goes_on.gives in
-    absurd (not_whole s.between.held (empty_waits hearer is_hearer s.between none) (content_stops second.what s.between.held second.is_held))
+    absurd (not_whole plain plain-are s.between.held (empty_waits hearer is_hearer s.between none) (content_stops plain plain-are second.what s.between.held second.is_held))
 
 pub to_one : (x : Machine) (piece : List ℕ) (n : ℕ) (found : Option (List Action)) (y : Machine) → by_steps x piece n found y → by_one_step x piece n found y
 to_one x piece n None y s = (s.0, s.1.0)

@@ -1,9 +1,10 @@
 -- What a session holds, and what each event and each octet does (RFC 4271, sections 4.1 and 8.2.2).
 use Rattle.std.specs.Prelude.{◌≡◌, ◌⊎◌, ℕ, Bool, true, false, List, [], Option, None, Some, option_map, Ok}
 use Rattle.arrayvec.specs.ArrayVec.{ArrayVec}
+use Rattle.bgp_frame.specs.declared.kind.Kind.{Kind}
 use Rattle.bgp_frame.specs.declared.kind.Kind.TheVariants as kind
 use Rattle.bgp_frame.specs.declared.notification.Notification.{Notification}
-use Rattle.bgp_frame.specs.Prelude.{content_of, Message, octets_of, Hearer}
+use Rattle.bgp_frame.specs.Prelude.{content_of, Message, octets_of, Hearer, plain}
 use Rattle.bgp_frame.specs.Hearing as hearing
 use Rattle.bgp_open.specs.declared.context.Context.{Context}
 use Rattle.bgp_open.specs.Prelude.{Settings, open_fault, own_of}
@@ -62,8 +63,9 @@ abbrev pub after_step : Machine → Step → Machine
 after_step x step = record { settings = x.settings; standing = step.next; held = [] }
 
 -- a session takes octets while the connection stands, and does what the state table says
-abbrev pub hearer : Hearer Machine Step Action
+abbrev pub hearer : Hearer Kind Machine Step Action
 hearer = record {
+  types = plain;
   held = λ x. x.held;
   holding = holding;
   listens = λ x. listens x.standing.state;

@@ -14,6 +14,8 @@ use Rattle.bgp_open.specs.declared.context.Context.{Context}
 use Rattle.bgp_msg.specs.declared.outcome.Outcome.{Outcome}
 use Rattle.bgp_msg.specs.Prelude.{is_reset, stream_rules, Decoding, fresh, holding, given_by, IsNext, IsLater, Stands, Decodes, end_behind}
 use Rattle.bgp_msg.proofs.Pulls.{one_out}
+use Rattle.bgp_frame.specs.Kind.{plain}
+use Rattle.bgp_frame.specs.steps.AreTypes.{plain-are}
 
 abbrev pub Outs : Type 0
 Outs = List (ℕ × Outcome)
@@ -48,16 +50,16 @@ module _ (old : Decoding) (octets : List ℕ) (n : ℕ) (before : Outs) (going :
       → (more : List ℕ) → Gives j (z.held ++ behind more) (given_by z what ∷ []) (end_behind (given_by z what).0)
   ends_by (Ok m) frame is more =
       let k = length (octets_of m) in
-      let long = length-octets_of m in
+      let long = length-octets_of plain plain-are m in
       subst (λ (e : End). Gives j (z.held ++ behind more) (outcome_of j m ∷ []) e) (sym (cond-false (eqb k 0) end.Head end.Reset (ne_eqb k 0 (λ (none : k ≡ 0). absurd (omega arith)))))
-      (gives_reset Outcome j m z.held (behind more) frame is)
+      (gives_reset plain plain-are Outcome j m z.held (behind more) frame is)
   ends_by (Err f) faulty is more =
-      gives_fault Outcome j (z.held ++ behind more) f (omega (arith, faulty.0, length-append z.held (behind more))) (head_of-append z.held (behind more) (omega (arith, faulty.0)) ∙ faulty.1)
+      gives_fault plain plain-are Outcome j (z.held ++ behind more) f (omega (arith, faulty.0, length-append z.held (behind more))) (head_of-append plain plain-are z.held (behind more) (omega (arith, faulty.0)) ∙ faulty.1)
 
   -- or the stream goes on
   goes_by : (what : Result Message HeadFault) → IsContent what z.held → is_reset (given_by z what).1 ≡ false
       → (more : List ℕ) (others : Outs) (e : End) → Gives j (behind more) others e → Gives j (z.held ++ behind more) (given_by z what ∷ others) e
-  goes_by (Ok m) frame on more others e g = gives_more Outcome j m z.held (behind more) others e frame on g
+  goes_by (Ok m) frame on more others e g = gives_more plain plain-are Outcome j m z.held (behind more) others e frame on g
   goes_by (Err f) faulty on more others e g = absurd cc
 
   module _ (k : ℕ) (o : Outcome) (outs : Outs) (new : Decoding) (next : IsNext z (Some (k, o)) new) (told : outs ≡ before ++ (k, o) ∷ []) where
@@ -81,7 +83,7 @@ module _ (old : Decoding) (octets : List ℕ) (n : ℕ) (before : Outs) (going :
     step_on is =
         let on = sym resets ∙ is in
         subst (λ (d : Decoding). Decodes old octets before outs (drop n octets) None d) (sym next.leaves) (record {
-          stands = (on, refl, nothing_waits);
+          stands = (on, refl, nothing_waits plain plain-are);
           fresh = (k, o) ∷ [];
           told = told;
           later = λ more others e g.
@@ -162,4 +164,4 @@ pub waits_at_end : (ctx : Context) (stream : List ℕ) (outs : Outs) (d : Decodi
 waits_at_end ctx stream outs d c =
     let e = end.Wait (length d.held) in
     subst (λ (s : List ℕ). Gives (stream_rules ctx) s outs e) (append-nil stream)
-    (gives_all ctx stream [] outs None d e c (subst (λ (s : List ℕ). Gives (stream_rules ctx) s [] e) (sym (append-nil d.held)) (gives_wait Outcome (stream_rules ctx) d.held c.stands.2)))
+    (gives_all ctx stream [] outs None d e c (subst (λ (s : List ℕ). Gives (stream_rules ctx) s [] e) (sym (append-nil d.held)) (gives_wait plain plain-are Outcome (stream_rules ctx) d.held c.stands.2)))

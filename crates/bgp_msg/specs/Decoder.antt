@@ -1,7 +1,8 @@
 -- What a decoder holds, and what it gives.
 use Rattle.std.specs.Prelude.{◌≡◌, ◌≤◌, ◌⊎◌, ℕ, Bool, false, not, List, [], ◌∷◌, length, take, Option, option_map, Result, Ok, Err}
 use Rattle.bgp_frame.specs.declared.fault.HeadFault.{HeadFault}
-use Rattle.bgp_frame.specs.Prelude.{octets_of, IsFrame, Hearer}
+use Rattle.bgp_frame.specs.Prelude.{octets_of, IsFrame, Hearer, plain}
+use Rattle.bgp_frame.specs.declared.kind.Kind.{Kind}
 use Rattle.bgp_frame.specs.declared.kind.Kind.TheVariants as kind
 use Rattle.bgp_frame.specs.Frame as frame
 use Rattle.bgp_frame.specs.Hearing as hearing
@@ -32,8 +33,9 @@ given_by d (Ok m) = (length (octets_of m), out_of d.ctx m)
 given_by d (Err f) = (0, of_fault f)
 
 -- a decoder takes octets until it gives a reset
-abbrev pub decoder : Hearer Decoding (ℕ × Outcome) (ℕ × Outcome)
+abbrev pub decoder : Hearer Kind Decoding (ℕ × Outcome) (ℕ × Outcome)
 decoder = record {
+  types = plain;
   held = λ d. d.held;
   holding = holding;
   listens = λ d. not d.stopped;

@@ -11,6 +11,8 @@ use Rattle.bgp_session.proofs.Facts.{keepalive_spelled, open_read, update_read, 
 use Rattle.bgp_session.proofs.Sayings.{Said, SaidOpen, SaidKeepalive, SaidNotification, SaidUpdate, open_body, update_body, message_of, spellings, updates_of, updates_in, Fits, Stage, WantsOpen, WantsKeepalive, Runs, next, Follows, EndsAt}
 use Rattle.bgp_session.proofs.Ways.{MaySay, sender_goes, sender_says}
 use Rattle.bgp_session.proofs.Ends.{IsAgreed, IsSound, quietly, armed, idle_out, sent_notifies, in_state, gone_to, leaves, notifies}
+use Rattle.bgp_frame.specs.Kind.{plain}
+use Rattle.bgp_frame.specs.steps.AreTypes.{plain-are}
 
 -- what an end needs to know of both settings: the other's can be made, both agree on one context, and it may refuse the other where it does
 pub record Know (mine theirs : Settings) (allowed : Note → Type 0) (side : Side) : Type 0 where
@@ -81,7 +83,7 @@ module _ (wide : Bool) (mine theirs : Settings) (allowed : Note → Type 0) (sid
       };
       other = record { settings = was.other.settings; context = was.other.context; left = was.other.left; none_gone = was.other.none_gone };
       to_this = record {
-        waits = nothing_waits;
+        waits = nothing_waits plain plain-are;
         last = h.last;
         ends = h.ends;
         coming = record { pending = h.pending; spelled = h.rest; follows = h.follows; fit = h.fit; front = h.front; got_so = h.got_so; sent_so = h.sent_so };
@@ -137,7 +139,7 @@ module _ (wide : Bool) (mine theirs : Settings) (allowed : Note → Type 0) (sid
       this = record { settings = was.this.settings; context = agrees; left = up; none_gone = was.this.none_gone };
       other = was.other;
       to_this = record {
-        waits = nothing_waits;
+        waits = nothing_waits plain plain-are;
         last = h.last;
         ends = h.ends;
         coming = record { pending = h.pending; spelled = h.rest; follows = follows; fit = h.fit; front = front; got_so = got_so; sent_so = sent_so };

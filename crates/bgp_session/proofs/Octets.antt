@@ -13,6 +13,8 @@ use Rattle.bgp_session.proofs.Streams.{waits_or_ends}
 use Rattle.bgp_session.proofs.Ways.{IsHearing, Goes}
 use Rattle.bgp_session.proofs.Ends.{IsSound, IsOut, idle_out, connect_out, active_out, in_state}
 use Rattle.bgp_session.proofs.Hearings.{Know, HeardAt, OnMessage, sent_hears, confirm_hears, established_hears}
+use Rattle.bgp_frame.specs.Kind.{plain}
+use Rattle.bgp_frame.specs.steps.AreTypes.{plain-are}
 
 -- ---- one octet, and then the others
 
@@ -112,7 +114,7 @@ module _ (wide : Bool) (mine theirs : Settings) (allowed : Note → Type 0) (sid
           let y : Machine = machine st more in
           let said : Message = message_of theirs m in
           let step : Step = hears y.settings y.standing (Ok said) in
-          let comes = content_of-frame said more (subst (λ (b : List ℕ). IsFrame said b) (sym whole) frame) in
+          let comes = content_of-frame plain plain-are said more (subst (λ (b : List ℕ). IsFrame said b) (sym whole) frame) in
           record {
             actions = step.actions;
             session = after_step y step;
@@ -151,7 +153,7 @@ module _ (wide : Bool) (mine theirs : Settings) (allowed : Note → Type 0) (sid
       record {
         actions = [];
         session = machine st held;
-        does = ap (λ (b : Bool). settled (machine st (with_octet b held octet))) out.deaf ∙ rests (machine st held) (subst Waits (sym deaf.holds_none) nothing_waits);
+        does = ap (λ (b : Bool). settled (machine st (with_octet b held octet))) out.deaf ∙ rests (machine st held) (subst Waits (sym deaf.holds_none) (nothing_waits plain plain-are));
         sound = record {
           this = was.this;
           other = was.other;

@@ -9,6 +9,8 @@ use Rattle.bgp_session.proofs.Prelude.{with_machine, left_seen, Pair, all_acted,
 use Rattle.bgp_session.proofs.Prelude.{octets_seen}
 use Rattle.bgp_session.proofs.Acts.{all_keeps}
 use Rattle.bgp_session.proofs.Plays.{observed_both}
+use Rattle.bgp_frame.specs.Kind.{plain}
+use Rattle.bgp_frame.specs.steps.AreTypes.{plain-are}
 
 module _ (side : Side) where
   -- octets in two parts
@@ -54,7 +56,7 @@ module _ (side : Side) where
     seen_front [] waits is = sym (waits_unseen x waits) ∙ ap (λ (h : List ℕ). settled_seen side (holding x h)) (sym (append-nil x.held))
     seen_front (octet ∷ front) waits is =
         let whole = x.held ++ octet ∷ front in
-        all_held (λ held later. octets_seen side (holding x held) later ≡ map (Came side) later ++ settled_seen side (holding x whole)) whole
+        all_held plain plain-are (λ held later. octets_seen side (holding x held) later ≡ map (Came side) later ++ settled_seen side (holding x whole)) whole
         (λ held octet joined.
         append-nil (octet_seen side (holding x held) octet) ∙ seen_one held octet ∙ ap (λ (h : List ℕ). Came side octet ∷ settled_seen side (holding x h)) joined)
         (λ held octet next later more_waits goes.
@@ -70,7 +72,7 @@ module _ (side : Side) where
       let front : List ℕ = take n piece in
       let back : List ℕ = drop n piece in
       let z : Machine = holding x (x.held ++ front) in
-      let fits : IsHeld (x.held ++ front) = IsHeld-fed x.held piece n is octets takes in
+      let fits : IsHeld (x.held ++ front) = IsHeld-fed plain plain-are x.held piece n is octets takes in
       left_waiting x piece waits
       ∙ ap (octets_seen side x) (sym (take-append-drop n piece))
       ∙ seen_in_parts x front back
@@ -84,7 +86,7 @@ module _ (side : Side) where
   seen_judging x actions y rest j =
       let step = hears x.settings x.standing j.what in
       ap (λ (l : List Sight). l ++ octets_seen side (settled x).session rest)
-      (ap (λ (o : Option (Result Message HeadFault)). step_seen side x (option_map (hears x.settings x.standing) o)) (content_is j.what x.held j.is_held))
+      (ap (λ (o : Option (Result Message HeadFault)). step_seen side x (option_map (hears x.settings x.standing) o)) (content_is plain plain-are j.what x.held j.is_held))
       ∙ ap (λ (e : Done). Heard side x.standing.context step.next.state step.actions ∷ octets_seen side e.session rest) (settled_by hearer is_hearer x actions y j)
       ∙ ap₂ (λ (st : State) (acts : List Action). Heard side x.standing.context st acts ∷ octets_seen side y rest) (sym (ap (λ (m : Machine). m.standing.state) j.leaves)) (sym j.does)
       ∙ ap (λ (l : List Sight). Heard side x.standing.context y.standing.state actions ∷ l)
@@ -100,13 +102,13 @@ module _ (side : Side) where
       → left_seen side x piece ≡ map (Came side) (take n piece) ++ left_seen side (behind_feed hearer x piece n) (drop n piece)
   seen_feed x piece n ready octets false deaf none = seen_none x piece n none
   seen_feed x piece n ready octets true up counts =
-      elim (waits_or_stops x.held ready.can_hold) [
+      elim (waits_or_stops plain plain-are x.held ready.can_hold) [
         | inl waits ↦ seen_taking x piece n up waits ready.can_hold octets counts.0
-        | inr stops ↦ seen_none x piece n (none_more x.held piece n stops counts.0)
+        | inr stops ↦ seen_none x piece n (none_more plain plain-are x.held piece n stops counts.0)
       ]
 
   unseen : (x : Machine) (piece : List ℕ) (up : Bool) → listens x.standing.state ≡ up → Waits x.held → CountsFed up x.held piece 0 → octets_seen side x piece ≡ []
-  unseen x piece true up waits counts = ap (octets_seen side x) (none_left piece (counts.1 waits))
+  unseen x piece true up waits counts = ap (octets_seen side x) (none_left plain plain-are piece (counts.1 waits))
   unseen x piece false deaf waits counts = drops_unseen x deaf waits piece
 
 -- ---- what an observer has of a pull

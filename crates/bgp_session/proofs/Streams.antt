@@ -2,6 +2,8 @@
 use Rattle.bgp_session.proofs.Prelude.{◌≡◌, ℕ, ◌+◌, ◌≤◌, ◌⊎◌, List, [], ◌∷◌, ◌++◌, length, take, drop, sym, ap, ◌∙◌, append_assoc, arith, inl, inr}
 use Rattle.bgp_session.proofs.Prelude.{take-append_seam, drop-append_seam, cases_lt, append-nil, length-append, Message, IsFrame, wanted, Waits}
 use Rattle.bgp_session.proofs.Prelude.{length-IsFrame, IsFrame-wanted, wanted_under, wanted-append}
+use Rattle.bgp_frame.specs.Kind.{plain}
+use Rattle.bgp_frame.specs.steps.AreTypes.{plain-are}
 
 -- fronts of one length are one
 same_front : (a b x y : List ℕ) → a ++ x ≡ b ++ y → length a ≡ length b → (a ≡ b) × (x ≡ y)
@@ -13,8 +15,8 @@ same_front a b x y same long = (
 -- at least a header of a frame's octets: so many are wanted as the frame has
 wanted_of : (m : Message) (a x b y : List ℕ) → IsFrame m b → a ++ x ≡ b ++ y → 19 ≤ length a → wanted a ≡ length b
 wanted_of m a x b y frame same long =
-    let least = length-IsFrame m b frame in
-    sym (wanted-append a x long) ∙ ap wanted same ∙ wanted-append b y (omega arith) ∙ IsFrame-wanted m b frame
+    let least = length-IsFrame plain plain-are m b frame in
+    sym (wanted-append plain plain-are a x long) ∙ ap wanted same ∙ wanted-append plain plain-are b y (omega arith) ∙ IsFrame-wanted plain plain-are m b frame
 
 module _ (m : Message) (held : List ℕ) (octet : ℕ) (rest b later : List ℕ) (waits : Waits held) (frame : IsFrame m b) (same : held ++ octet ∷ rest ≡ b ++ later) where
   abbrev more : List ℕ
@@ -26,7 +28,7 @@ module _ (m : Message) (held : List ℕ) (octet : ℕ) (rest b later : List ℕ)
   -- no more is held than the frame has
   within : length more ≤ length b
   within =
-      let least = length-IsFrame m b frame in
+      let least = length-IsFrame plain plain-are m b frame in
       let count : length more ≡ length held + 1 = length-append held (octet ∷ []) in
       elim (cases_lt (length held) 19) [
         | inl short ↦ omega arith
@@ -40,7 +42,7 @@ module _ (m : Message) (held : List ℕ) (octet : ℕ) (rest b later : List ℕ)
   waits_or_ends =
       let most = within in
       elim (cases_lt (length more) 19) [
-        | inl short ↦ let wants = wanted_under more short in inl (omega arith)
+        | inl short ↦ let wants = wanted_under plain plain-are more short in inl (omega arith)
         | inr long ↦
             let wants = wanted_of m more rest b later frame regrouped long in
             elim (cases_lt (length more) (length b)) [
@@ -52,7 +54,7 @@ module _ (m : Message) (held : List ℕ) (octet : ℕ) (rest b later : List ℕ)
 -- what waits begins with no frame
 pub no_frame : (m : Message) (held b later : List ℕ) → Waits held → IsFrame m b → held ≡ b ++ later → ⊥
 no_frame m held b later waits frame same =
-    let least = length-IsFrame m b frame in
+    let least = length-IsFrame plain plain-are m b frame in
     let count : length held ≡ length b + length later = ap length same ∙ length-append b later in
     let wants = wanted_of m held [] b later frame (append-nil held ∙ same) (omega arith) in
     omega arith

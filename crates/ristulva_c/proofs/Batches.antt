@@ -57,7 +57,7 @@ module _ {Row : Type 0} (gives : Giving Row) (ctx : Context) (octets : List ℕ)
 
 -- where nothing is left, less than a message is
 nothing_waits : (b : List ℕ) → length b ≡ 0 → Waits b
-unfolding wanted
+unfolding wanted_in
 nothing_waits [] none = omega arith
 nothing_waits (x ∷ b) none = absurd (omega (arith, none))
 

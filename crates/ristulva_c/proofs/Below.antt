@@ -22,7 +22,7 @@ unfoldable pub use Rattle.bgp_frame.specs.Prelude.{wanted}
 pub use Rattle.bgp_frame.specs.declared.fault.HeadFault.{HeadFault}
 pub use Rattle.bgp_frame.specs.declared.kind.Kind.{Kind}
 pub use Rattle.bgp_frame.specs.declared.notification.Notification.{Notification}
-pub use Rattle.bgp_frame.specs.declared.step.Step.{Step}
+pub use Rattle.bgp_frame.specs.Step.{Step}
 pub use Rattle.bgp_frame.proofs.FrameLemmas.{Stops-wanted, length-octets_of, wanted_by_head}
 pub use Rattle.bgp_frame.proofs.Headers.{length-header}
 pub use Rattle.bgp_open.specs.Prelude.{IsCapability, IsParameter, capabilities_left, capabilities_of, capability_of, joined, one_capability, one_parameter, open_fault, open_notification, open_of, open_value, or_fault, parameters_of, reading_of}

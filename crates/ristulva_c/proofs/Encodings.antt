@@ -6,6 +6,8 @@ use Rattle.bgp_update.proofs.Taken.{taken-written}
 use Rattle.bgp_update.proofs.Widths.{wide_update_has_no_as4}
 use Rattle.bgp_msg.specs.declared.message.Message.TheVariants as message
 use Rattle.ristulva_c.specs.Prelude.{encoded_of, short_of, written_of}
+use Rattle.bgp_frame.specs.Kind.{plain}
+use Rattle.bgp_frame.specs.steps.AreTypes.{plain-are}
 
 none_valid : (o : Option Invalid) → ((why : Invalid) → o ≡ Some why → ⊥) → is_none o ≡ true
 none_valid None never = refl
@@ -37,7 +39,7 @@ module _ (ctx : Context) (u : Update) where
   pub taken_written : (body : List ℕ) (notes : List Note) → AreOctets body → length body ≤ 4077 → verdict_of ctx body ≡ verdict.Take u notes → written_of ctx u ≡ encoded_of ctx u
   taken_written body notes octets short e =
       let can = taken-written ctx body u notes octets e in
-      let len : length (canonical ctx (message.Update u)) ≡ 19 + length (written_body ctx u) = length-octets_of (written ctx (message.Update u)) in
+      let len : length (canonical ctx (message.Update u)) ≡ 19 + length (written_body ctx u) = length-octets_of plain plain-are (written ctx (message.Update u)) in
       let fits : is_too_long ctx (message.Update u) ≡ false = le-ltb 4096 (length (canonical ctx (message.Update u))) (omega (arith, len, can.no_longer, short)) in
       valid_written can.valid ∙ (rw fits refl)
 

@@ -1,6 +1,6 @@
 -- What two OPENs agree on.
 use Rattle.std.specs.Prelude.{◌≡◌, ℕ, List, Option, None, Some, Result, Ok, Err}
-use Rattle.bgp_frame.specs.declared.step.Step.{Step}
+use Rattle.bgp_frame.specs.Step.{Step}
 use Rattle.bgp_frame.specs.Prelude.{ShowsFront}
 use Rattle.bgp_frame.specs.declared.step.Step.TheVariants as step
 use Rattle.bgp_open.specs.declared.context.Context.{Context}

@@ -1,6 +1,6 @@
 -- The place of the fault of a message, and of what a note on it is about.
 use Rattle.std.specs.Prelude.{◌≡◌, ◌==◌, ◌-◌, ◌||◌, ℕ, List, drop, take, nat_lt, Option, None, Some, if◌then◌else◌}
-use Rattle.bgp_frame.specs.declared.step.Step.{Step}
+use Rattle.bgp_frame.specs.Step.{Step}
 use Rattle.bgp_frame.specs.Prelude.{message_in, ShowsFront}
 use Rattle.bgp_frame.specs.declared.step.Step.TheVariants as step
 use Rattle.bgp_open.specs.declared.context.Context.{Context}

@@ -1,7 +1,7 @@
 -- What stands at the front of octets, in numbers (RFC 4271, sections 4.1 and 6.1).
 use Rattle.std.specs.Prelude.{◌≡◌, List, ℕ}
 use Rattle.bgp_frame.specs.declared.fault.HeadFault.{HeadFault}
-use Rattle.bgp_frame.specs.declared.step.Step.{Step}
+use Rattle.bgp_frame.specs.Step.{Step}
 use Rattle.bgp_frame.specs.Prelude.{wanted, head_notification, code_of, ShowsFront}
 use Rattle.bgp_frame.specs.declared.fault.HeadFault.TheVariants as fault
 use Rattle.bgp_frame.specs.declared.step.Step.TheVariants as step

@@ -1,7 +1,7 @@
 -- The outcome of a message, in numbers.
 use Rattle.std.specs.Prelude.{◌≡◌, Some, ℕ, List, [], length, nat_le, None, if◌then◌else◌}
 use Rattle.bgp_frame.specs.declared.kind.Kind.{Kind}
-use Rattle.bgp_frame.specs.declared.step.Step.{Step}
+use Rattle.bgp_frame.specs.Step.{Step}
 use Rattle.bgp_frame.specs.Prelude.{code_of, ShowsFront}
 use Rattle.bgp_frame.specs.declared.kind.Kind.TheVariants as kind
 use Rattle.bgp_frame.specs.declared.notification.Notification.{Notification}

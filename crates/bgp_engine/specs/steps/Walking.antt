@@ -2,7 +2,8 @@
 use Rattle.std.specs.Prelude.{◌≡◌, ℕ, ◌+◌, ◌-◌, ◌≤◌, ◌^◌, Bool, true, List, [], ◌++◌, length, is_none, is_some, Option, None, Some, Result, Ok, Err}
 use Rattle.std.specs.Prelude.{if◌then◌else◌}
 use Rattle.bgp_engine.specs.Below.{AreOctets, End, HeadFault, Message, Waits, Hearer, Done, PullsNext, by_feed, left_to_do, given, IsToFeed}
-use Rattle.bgp_engine.specs.Below.{outcome_of}
+use Rattle.bgp_engine.specs.Below.{Kind, outcome_of}
+use Rattle.bgp_frame.specs.Kind.{plain}
 use Rattle.bgp_frame.specs.Hearing as hearing
 use Rattle.bgp_engine.specs.declared.tally.Tally.{Tally}
 use Rattle.bgp_engine.specs.declared.walk.Walk.{Walk}
@@ -52,8 +53,9 @@ module _ {Outcome : Type 0} where
       (w.rules.line w.place o.0 w.held o.1, walking w.rules [] (w.place + passed w.rules o) (counted w.tally o.0 (w.rules.class o.1)) (ended_by w.rules what))
 
   -- a walk takes octets until its stream has ended
-  abbrev pub walker : Hearer (Walking Outcome) (List ℕ × Walking Outcome) ℕ
+  abbrev pub walker : Hearer Kind (Walking Outcome) (List ℕ × Walking Outcome) ℕ
   walker = record {
+    types = plain;
     held = λ w. w.held;
     holding = λ w held. record w { held = held };
     listens = λ w. is_none w.ended;
