@@ -5,7 +5,7 @@ use Rattle.bgp_open.specs.declared.context.Context.{Context}
 use Rattle.bgp_open.specs.declared.message.Open.{Open}
 use Rattle.bgp_open.specs.Peer.{Said, number_of, said_by}
 
--- Both are in one AS. Where only one speaker has AS numbers of four octets, the other knows it by its My Autonomous System (RFC 6793, section 4.1): that
+-- Both are in one AS. Where one alone has AS numbers of four octets, the other knows it by its My Autonomous System (RFC 6793, section 4.1): that
 -- field is compared then. AS_TRANS in it means a number that needs four octets, and so equals no AS number of two.
 abbrev pub is_one_as : Said → Said → Bool
 is_one_as ours theirs =

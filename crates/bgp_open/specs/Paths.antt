@@ -20,7 +20,7 @@ abbrev pub does : Role → ℕ → Bool
 does Reads code = (code == 1) || (code == 3)
 does Sends code = (code == 2) || (code == 3)
 
--- A row of families, each of four octets: AFI 2, SAFI 1, Send/Receive 1. Where octets are left over, or a Send/Receive is another, the capability isn't
+-- A row of families, each of four octets: AFI 2, SAFI 1, Send/Receive 1. Where octets are left over, or a Send/Receive differs, the capability isn't
 -- understood, and is ignored as a whole.
 abbrev pub is_path_row : List ℕ → Bool
 is_path_row [] = true
