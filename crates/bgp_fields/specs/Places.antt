@@ -79,8 +79,8 @@ abbrev pub length_place : Option (List ℕ × List ℕ) → Span
 length_place None = span 19 2
 length_place (Some withdrawn) = if nat_le 2 (length withdrawn.1) then span (21 + length withdrawn.0) 2 else span 19 2
 
--- in the order of the verdict: an attribute that calls for a reset, Withdrawn Routes, NLRI, and else an attribute that calls for a withdrawal in a message
--- that announces nothing
+-- in the order of the verdict: an attribute that calls for a reset, Withdrawn Routes, NLRI, and else an attribute that calls for a withdrawal in a
+-- message that announces nothing
 abbrev pub parts_place : Parts → List Mark → Option Span
 parts_place p marks =
     option_or (asking_place true p marks) (
