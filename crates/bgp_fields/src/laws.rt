@@ -29,8 +29,8 @@ pub fn an_accepted_message_is_read()
         → AreOctets octets → IsFrame m octets → out_of ctx m ≡ Took said [] → AllRead (fields_of ctx octets) }
 {}
 
-/// The prefix fields of an UPDATE that is accepted are its routes: those of Withdrawn Routes, of MP_UNREACH_NLRI and MP_REACH_NLRI by family, and of NLRI.
-/// An attribute that is discarded has none.
+/// The prefix fields of an UPDATE that is accepted are its routes: those of Withdrawn Routes, of MP_UNREACH_NLRI and MP_REACH_NLRI by family, and of
+/// NLRI. An attribute that is discarded has none.
 pub fn the_prefix_fields_are_the_routes()
     ensures { (ctx : Context) (m : frame.Message) (octets : List ℕ) (u : Update) (notes : List Note)
         → AreOctets octets → IsFrame m octets → out_of ctx m ≡ Took (message.Update u) notes → ShowsRoutes octets (fields_of ctx octets) u }

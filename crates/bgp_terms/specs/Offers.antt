@@ -37,8 +37,8 @@ offers_plain wanted (Other code value) = (code == wanted) && is_nothing value
 offers_plain wanted (Multi afi safi) = false
 offers_plain wanted (As4 number) = false
 
--- A row of families, each with the family of its next hops in six octets: AFI 2, SAFI 2, next hop's AFI 2 (RFC 8950, section 4). Where octets are left over,
--- the capability isn't understood.
+-- A row of families, each with the family of its next hops in six octets: AFI 2, SAFI 2, next hop's AFI 2 (RFC 8950, section 4). Where octets are
+-- left over, the capability isn't understood.
 abbrev pub is_hop_row : List ℕ → Bool
 is_hop_row [] = true
 is_hop_row (a ∷ b ∷ c ∷ d ∷ e ∷ f ∷ later) = is_hop_row later

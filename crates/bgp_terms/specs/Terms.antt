@@ -13,9 +13,9 @@ use Rattle.bgp_terms.specs.Families.{families_in, shared_families}
 use Rattle.bgp_terms.specs.Offers.{Offered, offered_by}
 use Rattle.bgp_open.specs.Peer.{Said, said_by}
 
--- what both offer; ROUTE-REFRESH (RFC 2918; RFC 7313); whether messages to the reader, and NOTIFICATIONs to the sender, may pass 4096 octets (RFC 8654);
--- whether IPv4 and IPv6 unicast routes have path identifiers (RFC 7911); whether IPv4 routes may have an IPv6 next hop (RFC 8950); the families beyond
--- these two that both offer (RFC 4760); and whether both are in one confederation (RFC 5065)
+-- what both offer; ROUTE-REFRESH (RFC 2918; RFC 7313); whether messages to the reader, and NOTIFICATIONs to the sender, may pass 4096 octets (RFC
+-- 8654); whether IPv4 and IPv6 unicast routes have path identifiers (RFC 7911); whether IPv4 routes may have an IPv6 next hop (RFC 8950); the
+-- families beyond these two that both offer (RFC 4760); and whether both are in one confederation (RFC 5065)
 pub record Agreed : Type 0 where
   pub context : Context
   pub refresh : Refreshes

@@ -31,8 +31,8 @@ subtype_text s =
     if s == 3 then codes " route origin " else
     codes " subtype " ++ (decimal s ++ codes " "))
 
--- the owner of the community, and its number: an AS number of two octets and a number of four, an address and a number of two, or an AS number of four and
--- a number of two
+-- the owner of the community, and its number: an AS number of two octets and a number of four, an address and a number of two, or an AS number of
+-- four and a number of two
 abbrev pub owned_text : ℕ → List ℕ → List ℕ
 owned_text t (a ∷ b ∷ c ∷ d ∷ e ∷ f ∷ []) =
     if t == 0 then decimal (from_be_bytes w16 (a ∷ b ∷ [])) ++ (codes ":" ++ decimal (from_be_bytes w32 (c ∷ d ∷ e ∷ f ∷ []))) else (

@@ -58,8 +58,8 @@ unplaced_line n = codes "  ! " ++ (note_reason n ++ 10 ∷ [])
 abbrev pub noted_line : List ℕ → ℕ → Note → Field → List ℕ
 noted_line message place n f = reason_line f.at (note_reason n) ++ field_line (is_of n f || is_in place f.group) message f
 
--- The lines of fields, with each note above the field where it is reported. The fields of its attribute are marked, and those of the attribute at `place`,
--- whose note was reported; notes that are left have no field.
+-- The lines of fields, with each note above the field where it is reported. The fields of its attribute are marked, and those of the attribute at
+-- `place`, whose note was reported; notes that are left have no field.
 unfoldable pub noted_lines : List ℕ → ℕ → List Note → List Field → List ℕ
 noted_lines message place notes [] = flat_map unplaced_line notes
 noted_lines message place [] (f ∷ fields) = field_line (is_in place f.group) message f ++ noted_lines message place [] fields

@@ -19,8 +19,8 @@ passed_field place n f = record { field = f; marked = is_of n f || is_in place f
 abbrev pub noted_field : ℕ → Note → Field → Told
 noted_field place n f = record { field = f; marked = is_of n f || is_in place f.group; wrong = Wrong.Noted n }
 
--- The fields of an UPDATE, with each note at the field where it is reported. The fields of its attribute are marked, and those of the attribute at `place`,
--- whose note was reported.
+-- The fields of an UPDATE, with each note at the field where it is reported. The fields of its attribute are marked, and those of the attribute at
+-- `place`, whose note was reported.
 unfoldable pub noted_fields : List ℕ → ℕ → List Note → List Field → List Told
 noted_fields message place notes [] = []
 noted_fields message place [] (f ∷ fields) = record { field = f; marked = is_in place f.group; wrong = Wrong.Nothing } ∷ noted_fields message place [] fields
@@ -103,6 +103,7 @@ explained_members ctx message fault (Outcome.Reset n) = fields_member message (m
 abbrev pub span_of : Option Fault → Option Span
 span_of fault = option_map (λ f. f.span) fault
 
--- the line of a message at an offset in the stream and of this length, 0 for a header's fault: what `show --json` prints, and the fields of its octets
+-- the line of a message at an offset in the stream and of this length, 0 for a header's fault: what `show --json` prints, and the fields of its
+-- octets
 abbrev pub explained_json : Context → ℕ → ℕ → List ℕ → Option Fault → Outcome → List ℕ
 explained_json ctx place len octets fault o = outcome_members place len (span_of fault) o ++ (explained_members ctx octets fault o ++ line_end)

@@ -93,10 +93,10 @@ fn put_fields(
 }
 
 /// Prints as [`put_viewed_outcome`](crate::put_viewed_outcome) does the outcome of a message of this length at its offset in the stream (0 for a
-/// header's fault), but of a reset's data at most 64 octets and their number. Then a line follows for each field of the message, or of the 19 octets of the
-/// header: its offset in the message, its octets, its name and its value. Fields of an attribute that isn't kept are marked, and so are
-/// the octets at fault where the message causes a NOTIFICATION. Above the field at fault a line has its offset, the reason, what
-/// was expected, and the section of the RFC whose test failed ("own rule" where it is ours).
+/// header's fault), but of a reset's data at most 64 octets and their number. Then a line follows for each field of the message, or of the 19 octets
+/// of the header: its offset in the message, its octets, its name and its value. Fields of an attribute that isn't kept are marked, and so are the
+/// octets at fault where the message causes a NOTIFICATION. Above the field at fault a line has its offset, the reason, what was expected, and the
+/// section of the RFC whose test failed ("own rule" where it is ours).
 ///
 /// # Errors
 /// `AllocError` where an allocation failed.
