@@ -133,7 +133,7 @@ fn length_span(body: &[u8]) -> Span
     }
 }
 
-/// The octets of these sections that cause a reset, if they do.
+/// The octets of these sections that cause a reset, if any do.
 fn parts_span(ctx: &Context, sections: &Sections<'_>) -> Option<Span>
     requires { length sections.now.withdrawn.now + (length sections.now.attributes.now + length sections.now.nlri.now) ≤ 4073 }
     ensures { result ≡ parts_place (sections_value sections.now) (marks_of ctx.now (sections_value sections.now)) }
@@ -151,7 +151,7 @@ fn parts_span(ctx: &Context, sections: &Sections<'_>) -> Option<Span>
     asking_span(false, ctx, sections)
 }
 
-/// The octets of an UPDATE's body that cause a reset, if it does.
+/// The octets of an UPDATE's body that cause a reset, if any do.
 fn update_span(ctx: &Context, body: &[u8]) -> Option<Span>
     requires { length body.now ≤ 4077 }
     ensures { result ≡ update_place ctx.now body.now (parts_of body.now) }
@@ -177,7 +177,7 @@ pub fn note_span(octets: &[u8], note: &Note) -> Option<Span>
     Some(attribute_span(&sections, at - field_at))
 }
 
-/// The octets of a whole message that cause a reset in a context, if it does: an OPEN's field, parameter or capability; an UPDATE's attribute,
+/// The octets of a whole message that cause a reset in a context, if any do: an OPEN's field, parameter or capability; an UPDATE's attribute,
 /// the first bad prefix of a field, or the length field that is too large; for 3/1 in an UPDATE that announces nothing, the first attribute that calls
 /// for a withdrawal. None where its outcome is another.
 pub fn message_span(ctx: &Context, frame: Frame<'_>) -> Option<Span>

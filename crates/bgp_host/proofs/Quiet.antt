@@ -1,4 +1,4 @@
--- How a session uses its connection when it is told its fate: after `Failed` it doesn't use it, and after `Connected` it seeks none.
+-- How a session uses its connection after an event of it: after `Failed` it doesn't use it, and after `Connected` it seeks none.
 use Rattle.bgp_host.proofs.Prelude.{◌≡◌, Bool, true, false, List, [], ◌∷◌, ◌++◌, ◌⊎◌, inl, inr, refl, sym, ap, subst, ◌∙◌, Action, Connected, Failed, State}
 use Rattle.bgp_host.proofs.Prelude.{Standing, on_event, only_if, disarmed, flushed, Link, Same, Up, Down, Deed, actions_of, sent, link_of, link_behind, Cause}
 use Rattle.bgp_host.proofs.Prelude.{Told, Gives, first_link, Hosted, RunsFrom, OneTurn, IsNotUp}

@@ -155,7 +155,8 @@ impl<C: Connection + Drop, K: Clock + Drop, O: Observer + Drop> Host<C, K, O> {
         Ok(taken_by(taken, found))
     }
 
-    /// Hands octets of the peer's to the session, and carries out the actions that it returns. What is left of the piece when the session leaves is dropped.
+    /// Hands octets of the peer's to the session, and carries out the actions that it returns. What is left of the piece when the session leaves is
+    /// dropped.
     ///
     /// # Errors
     /// `AllocError` where an allocation failed: the session has received the first octets, and continues after them.

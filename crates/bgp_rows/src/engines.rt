@@ -191,8 +191,7 @@ pub fn put_engine(
     put_runs(alloc, row, ctx, text.text.as_str().as_bytes())
 }
 
-/// Adds a line of text: `
-/// `, `\r` and `\t` are as in C, and `M` is a Marker's digits.
+/// Adds a line of text: `\n`, `\r` and `\t` are as in C, and `M` is a Marker's digits.
 fn put_text(text: &mut Page, line: &str) -> Result<(), Trouble> {
     let mut is_escaped = false;
     for character in line.bytes() {

@@ -10,7 +10,7 @@ use Rattle.bgp_session.specs.declared.side.Side.{Side}
 use Rattle.bgp_session.specs.declared.side.Side.TheVariants.{A, B}
 use Rattle.bgp_script.specs.NoteList.{side_name, own_notes, notes_text}
 
--- the number of UPDATEs that a side sent, of those announced to it, of messages that withdrew routes from it, and its NOTIFICATIONs
+-- the number of UPDATEs that a side sent, of those announced to it, of messages to it that were treated as withdrawals, and its NOTIFICATIONs
 abbrev pub side_line : Side → ℕ → ℕ → ℕ → List (Side × ℕ × ℕ) → List ℕ
 side_line side sent got gone notes =
     (side_name side ++ (codes " sent " ++ (decimal sent ++ (codes " got " ++ (decimal got ++ (codes " gone " ++ (decimal gone ++ codes " notes ")))))))

@@ -53,8 +53,8 @@ span_members (Some s) = fault_members s
 abbrev pub reset_members : ℕ → ℕ → Option Span → Notification → List ℕ
 reset_members place len span n = judged place len (reset_name n.code) (codes "reset") ++ (notification_members n ++ span_members span)
 
--- the object of an outcome except its end, at its offset in the stream, with the length of its message, 0 for a header's fault, and those of
--- the octets that cause a reset
+-- the object of an outcome except its end, at its offset in the stream, with the length of its message, 0 for a header's fault, and
+-- for a reset the octets that cause it
 unfoldable pub outcome_members : ℕ → ℕ → Option Span → Outcome → List ℕ
 outcome_members place len span (Outcome.Took m notes) = took_members place len m notes
 outcome_members place len span (Outcome.Withdraw routes notes) = withdraw_members place len routes notes

@@ -14,8 +14,8 @@ use crate::view::UpdateView;
 use bgp_attr::{AttrView, OpaqueView};
 use bgp_wire::OctetSet;
 
-/// The kept attributes of an UPDATE, without those of the unrecognised types that are left out. Each of these others is found by its
-/// type in one step.
+/// The kept attributes of an UPDATE, without those of the unrecognised types that are left out. The unrecognised ones that stay are found
+/// by their type in one step.
 #[derive(Clone, Copy)]
 pub struct Chosen<'b, 'a> {
     pub(crate) view: &'b UpdateView<'a>,

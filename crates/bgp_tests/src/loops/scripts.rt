@@ -10,7 +10,7 @@ use std::net::Net;
 use std::process::Abort;
 use std::test::*;
 
-/// A session that is told that no connection can be had, and an UPDATE that can't be sent.
+/// A session that finds no connection, and an UPDATE that can't be sent.
 const REFUSED: &str =
     "a as 65001 peer 65002 id 192.0.2.1 hold 90\nb as 65002 peer 65001 id 192.0.2.2 hold 30\nstart a\nrefuse a\nsend b 00000000\n";
 
