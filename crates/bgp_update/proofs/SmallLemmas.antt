@@ -1,4 +1,4 @@
--- The attributes of a field lie within it.
+-- The attributes of a field are within it.
 use Rattle.bgp_wire.proofs.Std.{◌≡◌, ℕ, ◌+◌, ◌≤◌, Bool, true, false, ◌&&◌, leb, List, [], ◌∷◌, length, refl, ap, ◌∙◌, arith, list_all, le-leb, leb-true}
 use Rattle.std.proofs.lemmas.List.{length-append}
 use Rattle.bgp_wire.specs.Prelude.{Row}

@@ -102,7 +102,7 @@ pub told-all : (P Q : Attr → Type 0) → Carries P Q → (a : Attrs) → AllBy
 told-all P Q told a all =
     all-carried P Q (slot a) (slot (narrowed a)) canonical_order (told-slot P Q told a (slot-all P a AS_PATH refl all) (slot-all P a AGGREGATOR refl all)) all
 
--- a test that no attribute passes, and one that none passes that is sent
+-- where no attribute passes a first test, none that is sent passes the other
 told-none : (before after : Attr → Bool) → Carries (λ x. before x ≡ false) (λ x. after x ≡ false) → (a : Attrs) → list_any before (attr_list a) ≡ false → list_any after (attr_list (narrowed a)) ≡ false
 told-none before after told a none =
     all-none after (attr_list (narrowed a)) (told-all (λ x. before x ≡ false) (λ x. after x ≡ false) told a (none-all before (attr_list a) none))

@@ -31,7 +31,7 @@ pub some_gone : (rs later : List PrefixValue) → ltb 0 (length rs) ≡ true →
 some_gone [] later e = absurd cc
 some_gone (r ∷ rs) later e = refl
 
--- ---- the attributes that carry routes come first, in at least that number of octets
+-- ---- all attributes have at least the octets of the two that carry routes
 
 module _ (ctx : Context) where
   abbrev size : List Attr → ℕ

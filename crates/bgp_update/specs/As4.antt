@@ -44,7 +44,7 @@ lead k (s ∷ later) = if k == 0 then [] else front_by k s.kind s.numbers ++ lea
 
 -- ---- reading: the path that both attributes give (RFC 6793, section 4.2.3)
 
--- the path of AS4_PATH, after the leading items that AS_PATH has more than it; AS_PATH alone where that has fewer items
+-- AS4_PATH with the surplus leading items of AS_PATH prepended; AS_PATH alone where that has fewer items than AS4_PATH
 abbrev pub joined : AsPath → AsPath → AsPath
 joined path wide =
     if nat_lt (items_of path.segments) (items_of wide.segments) then path else

@@ -45,7 +45,7 @@ impl<'a> JoinedPathView<'a> {
         }
     }
 
-    /// The path of AS4_PATH, after the leading items that AS_PATH has more than it; AS_PATH alone where that has fewer items.
+    /// AS4_PATH with the surplus leading items of AS_PATH prepended; AS_PATH alone where that has fewer items than AS4_PATH.
     pub(crate) fn new(path: PathView<'a>, wide: PathView<'a>) -> JoinedPathView<'a>
         ensures { joined_value result ≡ joined (path_value path.entry) (path_value wide.entry) }
     {

@@ -13,7 +13,7 @@ use bgp_numbers::AS_TRANS;
 use bgp_wire::List;
 use std::alloc::{AllocError, Global};
 
-/// The path of AS4_PATH, after the leading items that AS_PATH has more than it; AS_PATH alone where that has fewer items.
+/// AS4_PATH with the surplus leading items of AS_PATH prepended; AS_PATH alone where that has fewer items than AS4_PATH.
 fn joined(alloc: Global, path: &AsPath, wide: &AsPath) -> Result<AsPath, AllocError>
     ensures { IfOk result (λ whole. whole ≡ joined path.now wide.now) }
 {

@@ -17,6 +17,6 @@ abbrev pub pieces_within : {A : Type 0} → ℕ → (List ℕ → Option (A × L
 pieces_within zero one b = ([], b)
 pieces_within (suc n) one b = then_pieces b (pieces_within n one) (one b)
 
--- all the pieces from the front, and the rest: no piece is empty, so there are at most as many as octets
+-- all the pieces from the front, and the rest: no piece is empty, so there are no more of them than octets
 unfoldable pub pieces : {A : Type 0} → (List ℕ → Option (A × List ℕ)) → List ℕ → List A × List ℕ
 pieces one b = pieces_within (length b) one b
