@@ -1,4 +1,4 @@
--- What stands at the front of octets that are a whole message, or begin with a header with a fault.
+-- What octets begin with that are a whole message, or begin with a header with a fault.
 use Rattle.bgp_fields.proofs.Prelude.{◌≡◌, ℕ, ◌+◌, ◌≤◌, List, [], ◌++◌, length, take, drop, Option, Some, Result, Ok, Err, sym, ap, ◌∙◌, arith, drop_at}
 use Rattle.bgp_fields.proofs.Prelude.{take-append-drop, nil_from_length, append-nil, length-append, Kind, HeadFault, IsFrame, Waits, wanted, header, head_of}
 use Rattle.bgp_fields.proofs.Prelude.{type_field, code_of, kind_of, kind_of-code_of, head_of-append, length-IsFrame, head_of-IsFrame, wanted_by_head}
@@ -41,7 +41,7 @@ module _ (b : List ℕ) (n : ℕ) (m : frame.Message) (is : IsFrame m (take n b)
   pub no-fault-front : (f : HeadFault) → head_of b ≡ Err f → ⊥
   no-fault-front f e = no-fault m (take n b) f is (sym (head_of-append plain plain-are (take n b) (drop n b) long) ∙ ap head_of whole ∙ e)
 
-  -- one message stands there
+  -- one message is at the front
   pub one-message : (o : frame.Message) → IsFrame o b → m ≡ o
   one-message o there =
       let same_len : length (take n b) ≡ length b =

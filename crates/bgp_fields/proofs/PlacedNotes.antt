@@ -1,4 +1,4 @@
--- Each note on an UPDATE has a place, unless it says that an attribute is missing.
+-- Each note on an UPDATE has a span, unless it says that an attribute is missing.
 use Rattle.bgp_fields.proofs.Prelude.{◌≡◌, ℕ, ◌+◌, ◌-◌, ◌<◌, ◌≤◌, Bool, true, false, List, [], ◌∷◌, ◌++◌, length, Option, Some, refl, sym, ap, subst, ◌∙◌}
 use Rattle.bgp_fields.proofs.Prelude.{arith, flat_map, le-leb, flat_map-cons, true≢false, lt-ltb, ORIGIN, AS_PATH, NEXT_HOP, AreOctets, AreOctets-back, Kind}
 use Rattle.bgp_fields.proofs.Prelude.{IsFrame, header, length-IsFrame, Context, reading_of, Judged, Why, Note, Routes, Update, Verdict, Mark, marks_of}

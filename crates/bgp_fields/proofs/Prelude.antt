@@ -1,4 +1,4 @@
--- The names of std, of the crates below and of this crate that its proofs cite, passed on from one place. Declares nothing.
+-- Re-exports the names of std, of the crates below and of this crate that its proofs cite. Declares nothing.
 pub use Rattle.bgp_wire.proofs.Std.{AllByRecursion, Bool, Err, List, None, Ok, Option, Result, Some, [], and_parts, ap, append_assoc, ap₂, arith, cond, cond_both, drop, drop-drop, drop-set-lt, drop-take, drop_all, drop_at, eq-eqb, eqb, eqb-true, false, false_from_ne_true, flat_map, flat_map-append, flat_map-cons, from_be_bytes-to_be_bytes_2, inl, inr, le-leb, le-ltb, leb-true, length, length-append, length-drop, length-map, length-set, length-take-le, list_all, list_any, ltb-false, ltb-true, map, map-append, nat_eq, nat_le, nat_lt, nil_from_length, not, not-false, not-true, option_map, option_or, or_cases, or_left, or_parts, or_right, refl, replicate, set, subst, suc, sym, take, take-append-drop, take-take, take_at, take_more_set, to_be_bytes, true, true≢false, w16, zero, ℕ, ◌&&◌, ◌*◌, ◌++◌, ◌+◌, ◌-◌, ◌<◌, ◌==◌, ◌||◌, ◌∙◌, ◌∷◌, ◌≡◌, ◌≤◌}
 pub use Rattle.std.proofs.Math.Dec.{eqb-suc-zero}
 pub use Rattle.std.proofs.lemmas.Bool.{lt-ltb}

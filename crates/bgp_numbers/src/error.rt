@@ -1,4 +1,4 @@
-//! Codes of notifications, and their subcodes (RFC 4271, section 4.5).
+//! Codes of NOTIFICATIONs, and their subcodes (RFC 4271, section 4.5).
 
 /// Message Header Error (RFC 4271, section 6.1).
 pub const MESSAGE_HEADER: u8 = 1;
@@ -18,7 +18,7 @@ pub const FINITE_STATE_MACHINE: u8 = 5;
 /// Cease (RFC 4271, section 6.7).
 pub const CEASE: u8 = 6;
 
-/// No subcode says more.
+/// Unspecific: the subcode of an error for which none is defined.
 pub const UNSPECIFIC: u8 = 0;
 
 /// Message Header Error: Connection Not Synchronized.

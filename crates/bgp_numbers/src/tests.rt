@@ -1,7 +1,7 @@
 use super::*;
 use std::test::*;
 
-// The values are those of the IANA registries, written down again; each registry's name stands above its numbers.
+// The values are those of the IANA registries, written down again; each registry's name is above its numbers.
 #[test]
 fn numbers_are_those_of_the_registries(rt: HostRuntime) {
     // The version in an OPEN (RFC 4271); Special-Purpose AS Numbers: AS_TRANS (RFC 6793).
