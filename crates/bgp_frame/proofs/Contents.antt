@@ -7,7 +7,7 @@ use Rattle.bgp_frame.specs.Prelude.{AreTypes, IsFrameIn, IsHeldIn, MessageIn, Ty
 use Rattle.bgp_frame.proofs.FrameLemmas.{head_of-IsFrame, IsFrame-wanted, wanted_by_head, wanted-bounds, IsFrame-head_of}
 
 module _ {K : Type 0} (ty : Types K) (okay : AreTypes ty) where
-  -- enough octets come to their content
+  -- the content of enough octets
   pub enough : (b : List ℕ) → wanted_in ty b ≤ length b → content_of_in ty b ≡ Some (content_in ty b)
   enough b long = rw (le-ltb (length b) (wanted_in ty b) long) refl
 
@@ -30,7 +30,7 @@ module _ {K : Type 0} (ty : Types K) (okay : AreTypes ty) where
       enough b (omega arith)
       ∙ ap (λ r. Some (result_map_both (λ head. record { kind = head.kind; body = drop 19 b }) (λ fault. fault) r)) e
 
-  -- ---- the message that what is held comes to
+  -- ---- the message that is held
 
   cases_of : {T E : Type 0} (r : Result T E) → ((v : T) × (r ≡ Ok v)) ⊎ ((e : E) × (r ≡ Err e))
   cases_of (Ok v) = inl (v, refl)

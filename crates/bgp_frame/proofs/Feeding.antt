@@ -1,4 +1,4 @@
--- Filling up to a header, and then up to what the header wants, takes as many octets as one after another.
+-- Filling up to a header, and then up to its Length, consumes the same octets as one after another.
 use Rattle.bgp_wire.proofs.Std.{◌≡◌, ℕ, zero, suc, ◌+◌, ◌-◌, ◌<◌, ◌≤◌, min, List, ◌++◌, length, take, drop, sym, ap, subst, ◌∙◌, append_assoc, arith, inl, inr, ◌⊎◌, take-add, cases_lt, take_rest}
 use Rattle.std.proofs.lemmas.List.{append-nil, length-append, length-drop, length-take}
 use Rattle.bgp_wire.specs.Prelude.{AreOctets}
@@ -7,7 +7,7 @@ use Rattle.bgp_frame.specs.Prelude.{AreTypes, FramerValue, IsHeldIn, StopsIn, Ta
 use Rattle.bgp_frame.proofs.FrameLemmas.{wanted-bounds, wanted-append, Stops-wanted, wanted-Stops}
 
 module _ {K : Type 0} (ty : Types K) (okay : AreTypes ty) where
-  -- what waits and is given an octet takes one
+  -- an incomplete message that is given an octet consumes one
   pub takes_some : (held piece : List ℕ) (n : ℕ) → TakesIn ty held piece n → WaitsIn ty held → 0 < length piece → 0 < n
   takes_some held piece zero t waits some =
       elim t.all_or_stops [
@@ -49,7 +49,7 @@ module _ {K : Type 0} (ty : Types K) (okay : AreTypes ty) where
     wanted_more : (k : ℕ) → 19 ≤ length headed → wanted_in ty (headed ++ take k (drop first piece)) ≡ wanted_in ty headed
     wanted_more k long = wanted-append ty okay headed (take k (drop first piece)) long
 
-    -- a header that was there before wants what was wanted
+    -- a header that was held before doesn't change what is wanted
     headed_within : 19 ≤ length headed → length headed ≤ wanted_in ty headed
     headed_within long =
         let bounds = wanted-bounds ty okay headed in
@@ -120,7 +120,7 @@ module _ {K : Type 0} (ty : Types K) (okay : AreTypes ty) where
       all_or_stops = all_or_stops;
     }
 
-  -- what the two fillings leave, and how much they took
+  -- the octets after the two fillings, and the number that was consumed
   pub record Fed (old piece new : List ℕ) (n : ℕ) : Type 0 where
     pub takes : TakesIn ty old piece n
     pub appends : new ≡ old ++ take n piece
@@ -145,7 +145,7 @@ module _ {K : Type 0} (ty : Types K) (okay : AreTypes ty) where
         holds = subst (IsHeldIn ty) (sym end) (Fills-held inside piece first second f);
       }
 
--- what a framer's value says of a feed, of an equal value too
+-- a feed of a framer's value is one of an equal value
 pub feeds_as : {K G : Type 0} (types : G → Types K) (fine : (g : G) → AreTypes (types g)) (v w : FramerValue G) (piece new : List ℕ) (n : ℕ) → v ≡ w
     → Fed (types v.grammar) (fine v.grammar) v.octets piece new n → Fed (types w.grammar) (fine w.grammar) w.octets piece new n
 feeds_as {G = G} types fine v w piece new n same fed = subst (λ (x : FramerValue G). Fed (types x.grammar) (fine x.grammar) x.octets piece new n) same fed

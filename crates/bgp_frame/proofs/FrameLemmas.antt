@@ -92,7 +92,7 @@ module _ {K : Type 0} (ty : Types K) (okay : AreTypes ty) where
             (omega (arith, bounds.0), omega (arith, bounds.1))
       ]
 
-  -- once the header is there, more octets want no more
+  -- once the header is there, more octets don't change what is wanted
   pub wanted-append : (a b : List ℕ) → 19 ≤ length a → wanted_in ty (a ++ b) ≡ wanted_in ty a
   wanted-append a b long =
       wanted_by_head (a ++ b) (omega (arith, length-append a b)) ∙ ap wanted_by (head_of-append a b long) ∙ sym (wanted_by_head a long)
@@ -141,7 +141,7 @@ module _ {K : Type 0} (ty : Types K) (okay : AreTypes ty) where
   pub header_iff : (h : List ℕ) → length h ≡ 19 → AreOctets h → ((said : HeaderIn K) × (head_of_in ty h ≡ Ok said)) ↔ ((rest : List ℕ) × IsWholeIn ty (h ++ rest))
   header_iff h len octets = (λ says. header_begins h says.0 len octets says.1, λ w. whole_begins h w.0 len w.1)
 
-  -- ---- one count is taken
+  -- ---- the count is unique
 
   not_sooner : (held piece : List ℕ) (n m : ℕ) → TakesIn ty held piece n → TakesIn ty held piece m → n < m → ⊥
   not_sooner held piece n m p q lt =

@@ -1,13 +1,8 @@
--- What a header says, and what it is made of.
-use Rattle.bgp_wire.proofs.Std.{◌≡◌, ℕ, ◌≤◌, ◌<◌, ◌^◌, Bool, true, false, not, cond, ◌||◌, eqb, ltb, leb, List, take, Option, Some, None, Result, Ok, Err, refl, sym, ap, subst, arith, leb-true, le-leb, le-ltb, and_parts}
-use Rattle.std.proofs.lemmas.Bool.{eqb-true}
+-- The fields of a header without fault.
+use Rattle.bgp_wire.proofs.Std.{◌≡◌, ℕ, ◌≤◌, Bool, true, false, not, cond, ◌||◌, ltb, leb, List, take, Option, Some, None, Result, Ok, Err, refl, sym, ap, subst, arith, leb-true, le-leb, le-ltb, and_parts}
 use Rattle.std.proofs.lemmas.Slice.Eq.{bytes_eq-Decides}
-use Rattle.bgp_numbers.specs.declared.message.TheConstants.{OPEN, UPDATE, NOTIFICATION, KEEPALIVE}
-use Rattle.bgp_frame.specs.declared.kind.Kind.{Kind}
-use Rattle.bgp_frame.specs.declared.kind.Kind.TheVariants.{Open, Update, Keepalive}
 use Rattle.bgp_frame.specs.declared.fault.HeadFault.{HeadFault}
 use Rattle.bgp_frame.specs.Prelude.{AreTypes, HeaderIn, IsLengthIn, Types, has_marker, head_for_in, head_of_in, is_length_in, length_field, marker, type_field}
-use Rattle.bgp_frame.specs.declared.kind.Kind.TheVariants.{Notification}
 use Rattle.bgp_frame.specs.declared.fault.HeadFault.TheVariants as fault
 use Rattle.bgp_frame.proofs.Headers.{below_limit}
 

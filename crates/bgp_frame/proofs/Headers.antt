@@ -1,4 +1,4 @@
--- What a header makes of a body.
+-- A header and a body are a frame.
 use Rattle.bgp_wire.proofs.Std.{◌≡◌, ℕ, ◌+◌, ◌≤◌, List, ◌++◌, length, refl, ap, arith}
 use Rattle.std.proofs.lemmas.List.{length-append}
 use Rattle.bgp_frame.specs.Prelude.{AreTypes, IsFrameIn, IsLengthIn, Types, header_in}

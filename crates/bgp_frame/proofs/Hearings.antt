@@ -1,4 +1,4 @@
--- However octets are cut, and by whatever calls they are heard, what is done on them is what is done octet by octet.
+-- However octets are cut, and by whatever calls they are received, the actions on them are those octet by octet.
 use Rattle.bgp_wire.proofs.Std.{◌≡◌, ℕ, zero, suc, ◌+◌, ◌-◌, ◌<◌, ◌≤◌, min, ◌⊎◌, Bool, true, false, List, [], ◌∷◌, ◌++◌, length, take, drop, Option, None, Some, option_map, Result, Ok, Err, refl, sym, ap, ap₂, subst, ◌∙◌, append_assoc, arith, inl, inr, flat_map, take-add, cases_lt, take-append-drop}
 use Rattle.std.proofs.lemmas.List.{append-nil, length-append, length-drop, take_all}
 use Rattle.bgp_wire.specs.Prelude.{AreOctets}
@@ -14,7 +14,7 @@ use Rattle.bgp_frame.proofs.Pulls.{held_pulls, nothing_waits}
 module _ {K : Type 0} (ty : Types K) (okay : AreTypes ty) where
   -- ---- octets that are held
 
-  -- a feed fills up to a header, and then up to what that wants
+  -- a feed fills up to a header, and then up to the header's Length
   count_taken : (held piece : List ℕ) → IsHeldIn ty held → AreOctets piece → (n : ℕ) × TakesIn ty held piece n × IsHeldIn ty (held ++ take n piece)
   count_taken held piece is octets =
       let first : ℕ = min (19 - length held) (length piece) in
@@ -30,7 +30,7 @@ module _ {K : Type 0} (ty : Types K) (okay : AreTypes ty) where
       let f = count_taken held piece is octets in
       subst (λ (k : ℕ). IsHeldIn ty (held ++ take k piece)) (one_count ty okay held piece f.0 n f.1 takes) f.2
 
-  -- what can be held waits, or is whole
+  -- what can be held is incomplete, or whole
   pub waits_or_stops : (b : List ℕ) → IsHeldIn ty b → WaitsIn ty b ⊎ StopsIn ty b
   waits_or_stops b is =
       elim (cases_lt (length b) (wanted_in ty b)) [
@@ -38,7 +38,7 @@ module _ {K : Type 0} (ty : Types K) (okay : AreTypes ty) where
         | inr long ↦ let bounds = wanted-bounds ty okay b in let within = is.within in inr (wanted-Stops ty okay b is.octets (omega (arith, bounds.0)) (omega arith))
       ]
 
-  -- what comes to nothing yet waits
+  -- what has no outcome yet is incomplete
   pub none_waits : {S : Type 0} (of : Result (MessageIn K) HeadFault → S) (b : List ℕ) → option_map of (content_of_in ty b) ≡ None → WaitsIn ty b
   none_waits of b none =
       elim (cases_lt (length b) (wanted_in ty b)) [
@@ -49,7 +49,7 @@ module _ {K : Type 0} (ty : Types K) (okay : AreTypes ty) where
   pub not_whole : (b : List ℕ) → WaitsIn ty b → StopsIn ty b → ⊥
   not_whole b waits stops = let long = Stops-wanted ty okay b stops in omega (arith, long.1)
 
-  -- what is held with more octets behind it waited, where all of it can be held
+  -- a proper front of octets that can be held is incomplete
   pub front_waits : (a b : List ℕ) → length (a ++ b) ≤ wanted_in ty (a ++ b) → 0 < length b → WaitsIn ty a
   front_waits a b within some =
       let all = length-append a b in
@@ -58,7 +58,7 @@ module _ {K : Type 0} (ty : Types K) (okay : AreTypes ty) where
         | inr long ↦ let e = wanted-append ty okay a b long in omega arith
       ]
 
-  -- What octets do that can all be held, behind octets that wait: it is enough to know what the last of them does, and that the others are held
+  -- The actions on octets that can all be held, after an incomplete message: it is enough to know those on the last, and that the others are held
   module _ (P : List ℕ → List ℕ → Type 0) (whole : List ℕ) (last : (held : List ℕ) (octet : ℕ) → held ++ octet ∷ [] ≡ whole → P held (octet ∷ []))
       (on : (held : List ℕ) (octet next : ℕ) (later : List ℕ) → WaitsIn ty (held ++ octet ∷ []) → P (held ++ octet ∷ []) (next ∷ later) → P held (octet ∷ next ∷ later)) where
     pub all_held : IsHeldIn ty whole → (held : List ℕ) (octet : ℕ) (later : List ℕ) → held ++ octet ∷ later ≡ whole → P held (octet ∷ later)
@@ -81,12 +81,12 @@ module _ {K : Type 0} (ty : Types K) (okay : AreTypes ty) where
   content_found b (inl whole) = (Ok whole.0, whole.1)
   content_found b (inr faulty) = (Err faulty.1.0, (faulty.0, faulty.1.1))
 
-  -- nothing is taken of nothing
+  -- of no octets, none are consumed
   pub counts_nothing : (up : Bool) (held : List ℕ) → CountsFedIn ty up held [] 0
   counts_nothing true held = (record { within = omega arith; no_sooner = λ k lt stops. absurd (omega arith); all_or_stops = inl refl }, λ waits some. some)
   counts_nothing false held = refl
 
-  -- where what is held is whole, nothing is taken
+  -- where what is held is whole, nothing is consumed
   pub none_more : (held piece : List ℕ) (n : ℕ) → StopsIn ty held → TakesIn ty held piece n → n ≡ 0
   none_more held piece zero stops takes = refl
   none_more held piece (suc n) stops takes = absurd (takes.no_sooner 0 (omega arith) (subst (StopsIn ty) (sym (append-nil held)) stops))
@@ -95,7 +95,7 @@ module _ {K : Type 0} (ty : Types K) (okay : AreTypes ty) where
   counts_within true held piece n counts = counts.0.within
   counts_within false held piece n none = omega (arith, none)
 
-  -- the count where octets are taken
+  -- the count where octets are consumed
   pub taken_up : (up : Bool) (held piece : List ℕ) (n : ℕ) → up ≡ true → CountsFedIn ty up held piece n → CountsFedIn ty true held piece n
   taken_up true held piece n is counts = counts
   taken_up false held piece n is counts = absurd (let not : false ≡ true = is in cc)
@@ -119,9 +119,9 @@ module _ {K : Type 0} (ty : Types K) (okay : AreTypes ty) where
   one_there [] some = absurd (omega arith)
   one_there (octet ∷ held) some = refl
 
--- ---- a hearer
+-- ---- a receiver
 
--- its octets are a part of it, on which nothing else depends
+-- nothing else of a receiver depends on the octets that it holds
 pub record IsHearer {K X Said Action : Type 0} (h : Hearer K X Said Action) : Type 0 where
   pub types : AreTypes h.types
   pub held_so : (x : X) (held : List ℕ) → h.held (h.holding x held) ≡ held
@@ -136,11 +136,11 @@ module _ {K X Said Action : Type 0} (h : Hearer K X Said Action) (is : IsHearer 
 
   -- ---- at rest
 
-  -- what waits has nothing to do
+  -- an incomplete message leaves nothing to do
   pub idles : (x : X) → WaitsIn h.types (h.held x) → judged h x ≡ None
   idles x waits = ap (option_map (h.comes x)) (content_of-waits h.types is.types (h.held x) waits)
 
-  -- what has nothing to do waits
+  -- where nothing is to be done, what is held is incomplete
   pub waits_at : (x : X) → judged h x ≡ None → WaitsIn h.types (h.held x)
   waits_at x none = (none_waits h.types is.types) (h.comes x) (h.held x) none
 
@@ -169,16 +169,16 @@ module _ {K X Said Action : Type 0} (h : Hearer K X Said Action) (is : IsHearer 
   pub judged_empty : (x : X) (actions : List Action) (y : X) → Judges h x actions y → h.held y ≡ []
   judged_empty x actions y j = ap h.held j.leaves ∙ is.emptied x (h.comes x j.what)
 
-  -- ---- octets that are taken
+  -- ---- octets that are consumed
 
   module _ (x : X) (up : h.listens x ≡ true) where
-    -- one octet is taken
+    -- one octet is consumed
     takes_one : (held : List ℕ) (octet : ℕ) → by_octet h (h.holding x held) octet ≡ settled h (h.holding x (held ++ octet ∷ []))
     takes_one held octet =
         ap₂ (λ (b : Bool) (l : List ℕ). settled h (h.holding (h.holding x held) (with_octet b l octet))) (is.listens_so x held ∙ up) (is.held_so x held)
         ∙ ap (settled h) (is.held_last x held (held ++ octet ∷ []))
 
-    -- so it is for a whole front, where what is held waits
+    -- the same for a whole front, where what is held is incomplete
     pub front_by_octets : (front : List ℕ) → WaitsIn h.types (h.held x) → IsHeldIn h.types (h.held x ++ front) → by_octets h x front ≡ settled h (h.holding x (h.held x ++ front))
     front_by_octets [] waits held_is =
         sym (rests x waits) ∙ ap (settled h) (sym (ap (h.holding x) (append-nil (h.held x)) ∙ is.held_same x))
@@ -195,7 +195,7 @@ module _ {K X Said Action : Type 0} (h : Hearer K X Said Action) (is : IsHearer 
         (takes_one held octet ∙ rests (h.holding x (held ++ octet ∷ [])) (subst (WaitsIn h.types) (sym (is.held_so x _)) more_waits)) ∙ goes)
         held_is (h.held x) octet front refl
 
-  -- ---- octets that aren't taken
+  -- ---- octets that are not consumed
 
   pub drops_all : (x : X) → h.listens x ≡ false → WaitsIn h.types (h.held x) → (piece : List ℕ) → by_octets h x piece ≡ done [] x
   drops_all x deaf waits [] = refl
@@ -223,14 +223,14 @@ module _ {K X Said Action : Type 0} (h : Hearer K X Said Action) (is : IsHearer 
       ∙ ap (behind first) back
       ∙ ap (λ (acts : List Action). done acts y) (sym order)
 
-  -- ---- one call: what is left to do before it is what it does, and what is left behind it
+  -- ---- one call: what is left to do before it is what it does, and what is left after it
 
   pub record Passes (x : X) (piece : List ℕ) (n : ℕ) (actions : List Action) (y : X) : Type 0 where
     pub within : n ≤ length piece
     pub ready : IsReady h y
     pub left : left_to_do h x piece ≡ behind actions (left_to_do h y (drop n piece))
 
-  -- nothing is to be done but what the octets do
+  -- nothing is to be done but the actions on the octets
   pub waiting : (x : X) (rest : List ℕ) → WaitsIn h.types (h.held x) → left_to_do h x rest ≡ by_octets h x rest
   waiting x rest waits = ap (λ (d : Done X Action). behind d.actions (by_octets h d.session rest)) (rests x waits)
 
@@ -292,7 +292,7 @@ module _ {K X Said Action : Type 0} (h : Hearer K X Said Action) (is : IsHearer 
         left = feeds.left ∙ judges_left z actions y (drop n piece) call.next;
       }
 
-  -- octets were taken, or what was held is judged
+  -- octets were consumed, or what was held is judged
   pub lighter : (x y : X) (piece : List ℕ) (n : ℕ) → n ≤ length piece → 0 < n → weight h y (drop n piece) < weight h x piece
   lighter x y piece n within some = let left = length-drop n piece in let most = (one_at_most h.types is.types) (h.held y) in omega arith
 
@@ -306,7 +306,7 @@ module _ {K X Said Action : Type 0} (h : Hearer K X Said Action) (is : IsHearer 
       let gone : one_if_any (h.held y) ≡ 0 = ap one_if_any (judged_empty _ actions y j) in
       omega arith
 
-  -- ---- calls, one behind the other
+  -- ---- calls, one after the other
 
   abbrev pub Settles : X → List ℕ → List Action → X → Type 0
   Settles x octets actions y = (by_octets h x octets ≡ done actions y) × IsAtRest h y
@@ -318,13 +318,13 @@ module _ {K X Said Action : Type 0} (h : Hearer K X Said Action) (is : IsHearer 
   stays x piece true up waits counts = ap (by_octets h x) ((none_left h.types is.types) piece (counts.1 waits))
   stays x piece false deaf waits counts = drops_all x deaf waits piece
 
-  -- a call that takes nothing and finds nothing, where what is held waits
+  -- a call that consumes nothing and finds nothing, where what is held is incomplete
   pub call_ends : (x : X) (piece : List ℕ) (y : X) → IsReady h x → IsFedAndJudged h x piece 0 None y → WaitsIn h.types (h.held x) → Ends x piece [] y
   call_ends x piece y ready call waits =
       subst (λ (z : X). Ends x piece [] z) (sym (call.next ∙ took_none x piece 0 refl))
       (waiting x piece waits ∙ stays x piece (h.listens x) refl waits call.fed.0, rests_ready x ready waits)
 
-  -- each call of the way feeds and judges; where it takes nothing and finds nothing, what is held waits; and there is a call for each piece
+  -- each call of the way feeds and judges; where it consumes nothing and finds nothing, what is held is incomplete
   pub record IsWay (way : Way X Action) : Type 0 where
     pub heard : (x : X) (piece : List ℕ) (n : ℕ) (found : Option (List Action)) (y : X) → way x piece n found y → IsFedAndJudged h x piece n found y
     pub ends : (x : X) (piece : List ℕ) (y : X) → IsReady h x → way x piece 0 None y → WaitsIn h.types (h.held x)
@@ -358,7 +358,7 @@ module _ {K X Said Action : Type 0} (h : Hearer K X Said Action) (is : IsHearer 
         let back = runs_settle r.between later r.rest y front.1 (AreOctets-back run.octets (all_octets later) octets) r.goes_on in
         (joins_parts x run.octets (all_octets later) r.first r.rest actions r.between y front.0 back.0 r.in_order, back.1)
 
-    -- ---- any pieces can be heard
+    -- ---- any pieces can be received
 
     module _ (can : (x : X) (piece : List ℕ) → IsReady h x → AreOctets piece → SomeCall way x piece) where
       record SomeCalls (x : X) (piece : List ℕ) : Type 0 where

@@ -1,4 +1,4 @@
--- What stands at the front of a piece, and what can be held.
+-- What a piece begins with, and what can be held.
 use Rattle.bgp_wire.proofs.Std.{◌≡◌, ℕ, ◌+◌, ◌-◌, ◌<◌, ◌≤◌, ◌⊎◌, List, [], length, take, drop, Ok, Err, sym, ap, subst, ◌∙◌, arith, inl, inr, slice_range, take-append-drop, drop-take}
 use Rattle.std.proofs.lemmas.List.{length-take, take_all}
 use Rattle.bgp_wire.specs.Prelude.{AreOctets}
@@ -21,7 +21,7 @@ module _ {K : Type 0} (ty : Types K) (okay : AreTypes ty) where
   shows_more b h long e (inl low) = let least = above_18 ty okay h.kind h.len (Says-head_of ty okay b h e).fits in omega arith
   shows_more b h long e (inr short) = let is = wanted_by_head ty okay b long ∙ ap wanted_by e in omega arith
 
-  -- the first octets are as many as the header says
+  -- the first octets, of the length in the header
   module _ (b : List ℕ) (h : HeaderIn K) (octets : AreOctets b) (e : head_of_in ty b ≡ Ok h) (enough : h.len ≤ length b) where
     abbrev whole : List ℕ
     whole = take h.len b
@@ -42,7 +42,7 @@ module _ {K : Type 0} (ty : Types K) (okay : AreTypes ty) where
         let back : drop 19 whole ≡ body = ap (λ (n : ℕ). drop 19 (take n b)) parts ∙ drop-take 19 (h.len - 19) b ∙ sym is in
         (enough, subst (λ (x : List ℕ). IsFrameIn ty (record { kind = h.kind; body = x }) whole) back (IsFrame-head_of ty okay whole h (AreOctets-take h.len b octets) whole_head whole_long.0))
 
-  -- ---- what is held has no octets behind its front
+  -- ---- what is held ends with its first message
 
   held_frame : (b : List ℕ) (m : MessageIn K) (n : ℕ) → IsHeldIn ty b → n ≤ length b → IsFrameIn ty m (take n b) → IsFrameIn ty m b × (n ≡ length b)
   held_frame b m n held within frame =

@@ -1,4 +1,4 @@
--- What is pulled from a piece behind what is held.
+-- What is pulled from a piece after what is held.
 use Rattle.bgp_wire.proofs.Std.{◌≡◌, ℕ, ◌≤◌, List, [], ◌∷◌, ◌++◌, ◌⊎◌, length, take, drop, refl, sym, ap, subst, ◌∙◌, arith, inl, inr, take-append-drop}
 use Rattle.std.proofs.lemmas.List.{length-take, append-nil}
 use Rattle.bgp_frame.specs.declared.fault.HeadFault.{HeadFault}
@@ -17,7 +17,7 @@ module _ {K : Type 0} (ty : Types K) (okay : AreTypes ty) where
   none_held (octet ∷ held) none = absurd (omega arith)
 
   module _ (piece : List ℕ) where
-    -- what stops in front of a piece is as long as the piece wants
+    -- a whole front of a piece is as long as the piece wants
     front_wanted : (n : ℕ) → n ≤ length piece → StopsIn ty (take n piece) → wanted_in ty piece ≡ n
     front_wanted n within stops =
         let long = Stops-wanted ty okay (take n piece) stops in
@@ -80,7 +80,7 @@ module _ {K : Type 0} (ty : Types K) (okay : AreTypes ty) where
       pub pull_held_fault : (f : HeadFault) → ShowsStepIn ty held (step.Fault f) → IsPullIn ty held piece (pull.Fault 0 f)
       pull_held_fault f is = (held_pulls (inr (is.0, (f, is.1))), subst (λ (b : List ℕ). ShowsStepIn ty b (step.Fault f)) (sym (append-nil held)) is)
 
-  -- what holds of all octets that are pulled, holds of what is held, or of what stands at the front of the piece
+  -- what holds of all octets that are pulled, holds of what is held, or of the front of the piece
   pub held_or_front : (held piece : List ℕ) (n : ℕ) (P : List ℕ → Type 0) → PullsIn ty held piece n → P (held ++ take n piece)
       → ((n ≡ 0) × P held) ⊎ ((held ≡ []) × P (take n piece))
   held_or_front held piece n P pulls p =

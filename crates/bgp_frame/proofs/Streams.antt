@@ -36,7 +36,7 @@ module _ {K : Type 0} (ty : Types K) (okay : AreTypes ty) where
     one_cut = one_frame;
   }
 
-  -- ---- what stands at the front
+  -- ---- what a stream begins with
 
   front_wanted : (m : MessageIn K) (frame rest : List ℕ) → IsFrameIn ty m frame → wanted_in ty (frame ++ rest) ≡ length frame
   front_wanted m frame rest f = let len = length-IsFrame ty okay m frame f in (wanted-append ty okay) frame rest (omega arith) ∙ IsFrame-wanted ty okay m frame f
@@ -145,7 +145,7 @@ module _ {K : Type 0} (ty : Types K) (okay : AreTypes ty) where
     read_none n s os end.Head h = read_fault n s h.fault h.has_header h.faulty ∙ ap (λ (xs : List (ℕ × Outcome)). (xs, end.Head)) (sym h.told)
     read_none n s os (end.Wait k) h = read_waiting n s h.waits ∙ ap (λ (m : ℕ). ([], end.Wait m)) (sym h.count) ∙ ap (λ (xs : List (ℕ × Outcome)). (xs, end.Wait k)) (sym h.told)
 
-    -- what the tail of the messages comes to
+    -- the outcomes of the messages after the first
     record TailEnds (m : MessageIn K) (ms : List (MessageIn K)) (rest : List ℕ) (os : List (ℕ × Outcome)) (e : End) : Type 0 where
       on : GoesOn j m
       tail : List (ℕ × Outcome)
@@ -225,7 +225,7 @@ module _ {K : Type 0} (ty : Types K) (okay : AreTypes ty) where
         subst (λ (k : ℕ). GivesIn ty j s ((k, j.of_message m) ∷ r.0) r.1) count
         (subst (λ (x : List ℕ). GivesIn ty j x (outcome_of_in ty j m ∷ r.0) r.1) (take-append-drop h.len s) (gives_more m (take h.len s) (drop h.len s) r.0 r.1 f is later))
 
-    -- the message whose header stands at the front, and which is there whole
+    -- the message that the stream begins with, whole
     front_frame : (s : List ℕ) (h : HeaderIn K) → AreOctets s → 19 ≤ length s → head_of_in ty s ≡ Ok h → wanted_in ty s ≤ length s → IsFrameIn ty (message_at h s) (take h.len s) × (length (take h.len s) ≡ h.len) × (19 ≤ h.len)
     front_frame s h octets long e enough =
         let is : wanted_in ty s ≡ h.len = wanted_by_head ty okay s long ∙ ap wanted_by e in

@@ -8,7 +8,7 @@ use Rattle.bgp_frame.specs.Frame.{Message, MessageIn, wanted_in}
 use Rattle.bgp_frame.specs.Head.{head_of_in}
 
 module _ {K : Type 0} (ty : Types K) where
-  -- the message that octets are, as their header says, or the header's fault
+  -- the message that the octets are, as their header says, or the header's fault
   abbrev pub content_in : List ℕ → Result (MessageIn K) HeadFault
   content_in b = result_map_both (λ head. record { kind = head.kind; body = drop 19 b }) (λ fault. fault) (head_of_in ty b)
 

@@ -1,4 +1,4 @@
--- What a framer can hold.
+-- What a framer holds.
 use Rattle.std.specs.Prelude.{ℕ, ◌≤◌, List, length}
 use Rattle.bgp_wire.specs.Prelude.{AreOctets}
 use Rattle.bgp_frame.specs.Types.{Types}

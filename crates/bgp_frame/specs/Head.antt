@@ -33,7 +33,7 @@ module _ {K : Type 0} (ty : Types K) where
   abbrev pub header_in : K → ℕ → List ℕ
   header_in kind n = marker ++ (to_be_bytes w16 n ++ (ty.code_of kind ∷ []))
 
-  -- the tests that need the kind: that there is one, and that it may be so long
+  -- the tests that need the kind: that there is one, and that it allows the length
   abbrev pub head_for_in : Option K → ℕ → ℕ → Result (HeaderIn K) HeadFault
   head_for_in None code len = Err (fault.Kind code)
   head_for_in (Some kind) code len = if is_length_in ty kind len then Ok (record { kind = kind; len = len }) else Err (fault.Length len)
@@ -59,7 +59,7 @@ head_for = head_for_in plain
 abbrev pub head_of : List ℕ → Result Header HeadFault
 head_of = head_of_in plain
 
--- what a fault is answered by: the field that is at fault is the information
+-- the NOTIFICATION for a fault: the field that is at fault is its data
 abbrev pub head_notification : HeadFault → Notification
 head_notification fault.Marker = record { code = MESSAGE_HEADER; subcode = NOT_SYNCHRONIZED; info = record { items = [] } }
 head_notification (fault.Length n) = record { code = MESSAGE_HEADER; subcode = BAD_MESSAGE_LENGTH; info = record { items = to_be_bytes w16 n } }

@@ -1,18 +1,18 @@
 -- The kinds of message, their type octets and their lengths (RFC 4271, sections 4.1 to 4.5).
-use Rattle.std.specs.Prelude.{ℕ, ◌≤◌, Bool, ◌&&◌, ◌==◌, nat_le, Option, None, Some, if◌then◌else◌}
+use Rattle.std.specs.Prelude.{ℕ, Bool, ◌&&◌, ◌==◌, nat_le, Option, None, Some, if◌then◌else◌}
 use Rattle.bgp_numbers.specs.declared.message.TheConstants.{OPEN, UPDATE, NOTIFICATION, KEEPALIVE}
 use Rattle.bgp_frame.specs.declared.kind.Kind.{Kind}
 use Rattle.bgp_frame.specs.declared.kind.Kind.TheVariants.{Open, Update, Notification, Keepalive}
 use Rattle.bgp_frame.specs.Types.{IsLengthIn, Types}
 
--- the octet of a kind
+-- the type octet of a kind
 abbrev pub code_of : Kind → ℕ
 code_of Open = OPEN
 code_of Update = UPDATE
 code_of Notification = NOTIFICATION
 code_of Keepalive = KEEPALIVE
 
--- the kind of an octet
+-- the kind of a type octet
 abbrev pub kind_of : ℕ → Option Kind
 kind_of n =
     if n == OPEN then Some Open else (

@@ -1,4 +1,4 @@
--- The names that other crates and the proofs cite, passed on by one module. Declares nothing.
+-- Re-exports the names that other crates and the proofs cite. Declares nothing.
 pub use Rattle.bgp_frame.specs.Types.{AreTypes, IsLengthIn, Types}
 pub use Rattle.bgp_frame.specs.Kind.{IsLength, code_of, is_length, is_length_in, kind_of, least_length, most_length, plain}
 pub use Rattle.bgp_frame.specs.WideKind.{wide_code, wide_kind, wide_least, wide_most, wide_types}

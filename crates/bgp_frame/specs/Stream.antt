@@ -1,4 +1,4 @@
--- A stream of octets, what its messages come to, and how it ends (RFC 4271, sections 4.1 and 6).
+-- A stream of octets, the outcomes of its messages, and how it ends (RFC 4271, sections 4.1 and 6).
 use Rattle.std.specs.Prelude.{◌≡◌, ℕ, ◌≤◌, Bool, true, false, List, [], ◌∷◌, ◌++◌, length, map, Result, Ok, Err}
 use Rattle.std.specs.List.{AllByRecursion}
 use Rattle.bgp_wire.specs.Prelude.{Row}
@@ -22,7 +22,7 @@ module _ {K Outcome : Type 0} (rules : StreamRulesIn K Outcome) where
   abbrev pub GoesOn : MessageIn K → Type 0
   GoesOn m = rules.resets (rules.of_message m) ≡ false
 
-  -- all of the messages let the stream go on, but for the last
+  -- all messages but the last let the stream go on
   pub record EndsAtReset (messages : List (MessageIn K)) : Type 0 where
     pub earlier : List (MessageIn K)
     pub last : MessageIn K
@@ -55,7 +55,7 @@ module _ {K Outcome : Type 0} (ty : Types K) (rules : StreamRulesIn K Outcome) w
   EndsByIn messages rest outcomes end.Head = EndsAtHead messages rest outcomes
   EndsByIn messages rest outcomes (end.Wait n) = EndsWaiting messages rest outcomes n
 
-  -- the stream is messages and a rest: these come of it, and so it ends
+  -- the stream is messages and a rest: these are its outcomes, and so it ends
   pub record GivesIn (stream : List ℕ) (outcomes : List (ℕ × Outcome)) (end_of : End) : Type 0 where
     pub messages : List (MessageIn K)
     pub row : List ℕ
@@ -71,7 +71,7 @@ module _ {K Outcome : Type 0} (ty : Types K) (rules : StreamRulesIn K Outcome) w
     pub gives : GivesIn stream outcomes end_of
     pub only : (others : List (ℕ × Outcome)) (other : End) → GivesIn stream others other → (others ≡ outcomes) × (other ≡ end_of)
 
--- the rules that hand on each message and each fault as it is: what comes of them by other rules is a function of it
+-- the rules whose outcome is the message or the fault itself: the outcomes by other rules are a function of it
 abbrev pub as_it_is : {K : Type 0} → (Result (MessageIn K) HeadFault → Bool) → StreamRulesIn K (Result (MessageIn K) HeadFault)
 as_it_is resets = record { of_message = λ m. Ok m; of_fault = λ f. Err f; resets = resets }
 

@@ -1,6 +1,6 @@
 -- The message types that two speakers agree on: those of RFC 4271, with ROUTE-REFRESH (RFC 2918) and messages above 4096 octets (RFC 8654) where both
 -- offered them.
-use Rattle.std.specs.Prelude.{ℕ, Bool, true, false, ◌==◌, Option, None, Some, option_map, if◌then◌else◌}
+use Rattle.std.specs.Prelude.{ℕ, Bool, ◌==◌, Option, None, Some, option_map, if◌then◌else◌}
 use Rattle.bgp_numbers.specs.declared.message.TheConstants.{ROUTE_REFRESH}
 use Rattle.bgp_frame.specs.declared.kind.Kind.{Kind}
 use Rattle.bgp_frame.specs.declared.kind.Kind.TheVariants.{Open, Update, Notification, Keepalive}

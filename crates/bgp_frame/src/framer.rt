@@ -13,9 +13,9 @@ use crate::pull::Pull;
 use crate::step::Step;
 use std::marker::Model;
 
-/// Reads the octets of a stream, in whatever pieces they come, and holds at most one message (RFC 4271, section 4.1).
+/// Reads the octets of a stream, however it is cut, and holds at most one message (RFC 4271, section 4.1).
 ///
-/// A header is judged once its 19 octets are there, and not before. At most 4096 octets are held, and no call takes memory. It is a [`FramerOf`] for the
+/// A header is judged once its 19 octets are held, and not before. At most 4096 octets are held, and no call allocates. It is a [`FramerOf`] for the
 /// types of RFC 4271.
 #[derive(Drop)]
 pub struct Framer {
@@ -40,7 +40,7 @@ impl Framer {
         }
     }
 
-    /// How many octets are held.
+    /// The number of octets that are held.
     #[inline(always)]
     pub fn held(&self) -> usize
         ensures value { result ≡ length self.now }
@@ -60,7 +60,7 @@ impl Framer {
 
     /// Consumes octets of the piece until it ends, or a whole message or a header with a fault is held.
     ///
-    /// Answers how many it consumed.
+    /// Answers the number of octets consumed.
     #[inline(always)]
     pub fn feed(&mut self, piece: &[u8]) -> usize
         ensures takes { Takes self.old piece.now result }
@@ -79,10 +79,10 @@ impl Framer {
         self.framer.step()
     }
 
-    /// The message or the faulty header that is held, or, where nothing is held, the one that a piece begins with, as it stands there: nothing
-    /// is copied, and nothing changes. Where neither is whole, the piece is to be fed.
+    /// The message or the faulty header that is held or, where nothing is held, the one that a piece begins with, in the caller's buffer: nothing is
+    /// copied, and nothing changes. Where neither is whole, the piece is to be fed.
     ///
-    /// Who goes on behind a message consumes as many octets of the piece as are said, and calls [`clear`](Framer::clear).
+    /// To continue after a message, the caller drops the stated number of octets from the piece, and calls [`clear`](Framer::clear).
     #[inline(always)]
     pub fn look<'a>(&'a self, piece: &'a [u8]) -> Pull<'a>
         ensures { IsPull self.now piece.now result }
@@ -90,7 +90,7 @@ impl Framer {
         self.framer.look(piece)
     }
 
-    /// Lets go of the message that is held.
+    /// Drops the message that is held.
     #[inline(always)]
     pub fn take(&mut self)
         requires { IsWhole self.old }
@@ -99,7 +99,7 @@ impl Framer {
         self.framer.take();
     }
 
-    /// Lets go of whatever is held.
+    /// Drops whatever is held.
     #[inline(always)]
     pub fn clear(&mut self)
         ensures { self.new ≡ [] }

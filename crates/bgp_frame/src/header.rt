@@ -1,4 +1,4 @@
-//! Headers: made, and read.
+//! Writing and reading headers.
 
 ghost use Rattle.std.specs.Prelude.{◌≡◌, ◌↔◌, ◌+◌, ◌≤◌, ◌++◌, List, ℕ, Ok, IfSome, IsTrue, length, take, replicate};
 ghost use Rattle.bgp_frame.specs.Prelude.{IsLength, header, has_marker, head_of_in, IsFrame, wanted_in};
@@ -8,19 +8,19 @@ use crate::grammar::Grammar;
 use crate::kind::Kind;
 use bgp_numbers::message;
 
-/// The octets of a header.
+/// The length of a header.
 pub(crate) const HEADER_LEN: usize = 19;
 
-/// What a header without fault says: the kind, and the octets of the whole message.
+/// A header without fault: the kind, and the length of the whole message.
 #[derive(Clone, Copy)]
 pub(crate) struct Header<K: Copy> {
     pub(crate) kind: K,
     pub(crate) len: u16,
 }
 
-/// The header of a message of this kind with a body of so many octets (RFC 4271, section 4.1).
+/// The header of a message of this kind with a body of this length (RFC 4271, section 4.1).
 ///
-/// The whole message, of 19 octets more, has to be as long as its kind allows.
+/// The kind has to allow the length of the whole message, which is 19 octets more.
 #[tactic(auto, using(crate::proofs::Headers::below_limit, crate::proofs::Headers::makes_frame))]
 pub fn head(kind: Kind, body_len: u16) -> [u8; 19]
     requires { IsLength kind (19 + body_len) }
@@ -54,7 +54,7 @@ fn has_marker(octets: &[u8]) -> bool
     begins_with_half(octets) && begins_with_half(&octets[8..])
 }
 
-/// What the first 19 octets say, or the first fault. The tests are those of RFC 4271, section 6.1, and their order our own.
+/// Reads the first 19 octets, or answers their first fault. The tests are those of RFC 4271, section 6.1, and their order our own.
 #[tactic(auto, unfolding(crate::specs::Head::head_of_in))]
 pub(crate) fn read_head<G: Grammar>(grammar: G, octets: &[u8]) -> Result<Header<G::Kind>, HeadFault>
     requires { 19 ≤ length octets.now }

@@ -2,7 +2,7 @@
 
 use bgp_numbers::message;
 
-/// What a message is, by the octet of its type (RFC 4271, section 4.1).
+/// The kind of a message, by its type octet (RFC 4271, section 4.1).
 #[derive(Clone, Copy, Debug, PartialEq, Eq, Hash)]
 pub enum Kind {
     /// OPEN, type 1: 29 octets or more (RFC 4271, section 4.2).

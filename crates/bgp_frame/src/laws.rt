@@ -8,7 +8,7 @@ ghost use Rattle.bgp_frame.specs.declared.grammar.WideGrammar.{WideGrammar};
 ghost use Rattle.bgp_frame.specs.declared.kind.WideKind.{WideKind};
 ghost use Rattle.bgp_frame.specs.Prelude.{head_of, head_of_in, HeaderIn, Message, MessageIn, IsFrame, IsFrameIn, IsWhole, IsWholeIn, Takes, TakesIn, HasOneReading, as_it_is, HasOneReadingIn, wide_types};
 
-/// No message begins another, and the octets of one have one kind and one body.
+/// No message begins another, and the octets of a message have one kind and one body.
 pub fn frames_are_prefix_free()
     ensures plain { IsPrefixFree IsFrame }
     ensures wide { (g : WideGrammar) → IsPrefixFree (IsFrameIn (wide_types g)) }
@@ -20,7 +20,7 @@ pub fn headers_begin_messages()
     ensures wide { (g : WideGrammar) (h : List ℕ) → length h ≡ 19 → AreOctets h → ((header : HeaderIn WideKind) × (head_of_in (wide_types g) h ≡ Ok header)) ↔ ((rest : List ℕ) × IsWholeIn (wide_types g) (h ++ rest)) }
 {}
 
-/// How many octets a framer consumes is one number.
+/// The number of octets that a framer consumes is unique.
 pub fn one_count_is_taken()
     ensures plain { (held piece : List ℕ) (n m : ℕ) → Takes held piece n → Takes held piece m → n ≡ m }
     ensures wide { (g : WideGrammar) (held piece : List ℕ) (n m : ℕ) → TakesIn (wide_types g) held piece n → TakesIn (wide_types g) held piece m → n ≡ m }

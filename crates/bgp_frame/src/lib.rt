@@ -1,4 +1,4 @@
-//! Frames of BGP-4: headers, whole messages out of pieces of a stream, and notifications (RFC 4271, sections 4.1, 4.5 and 6.1).
+//! Frames of BGP-4: headers, whole messages from a stream that is cut anywhere, and NOTIFICATIONs (RFC 4271, sections 4.1, 4.5 and 6.1).
 #![tactic(auto)]
 
 mod end;

@@ -1,4 +1,4 @@
-//! What can be pulled from a piece behind what is held.
+//! The next message of a piece, after what is held.
 
 use crate::fault::HeadFault;
 use crate::kind::Kind;
@@ -9,8 +9,8 @@ use crate::step::Frame;
 pub enum Pull<'a, K: Copy = Kind> {
     /// No whole message: the piece is to be fed.
     Feed,
-    /// A whole message, and how many octets of the piece it has: none where it is held.
+    /// A whole message, and the number of its octets that are in the piece: 0 where it is held.
     Frame(usize, Frame<'a, K>),
-    /// A header that begins no message, and how many octets of the piece it has: none where it is held, else 19.
+    /// A header that begins no message, and the number of its octets that are in the piece: 0 where it is held, else 19.
     Fault(usize, HeadFault),
 }

@@ -1,4 +1,4 @@
-//! What the first octets of a stream are.
+//! The first message of a piece of a stream.
 
 ghost use Rattle.std.specs.Prelude.{◌≡◌, ◌≤◌, length, Ok};
 ghost use Rattle.bgp_frame.specs.Prelude.{head_of_in, IsHeldIn, ShowsFront, ShowsFrontIn, ShowsStepIn};
@@ -8,25 +8,25 @@ use crate::grammar::{Grammar, Plain};
 use crate::header::{HEADER_LEN, Header, read_head, update_head};
 use crate::kind::Kind;
 
-/// A whole message, with its body as it stands on the wire.
+/// A whole message, with its body as received.
 #[derive(Clone, Copy, Debug, PartialEq, Eq)]
 pub struct Frame<'a, K: Copy = Kind> {
     /// The type of the message.
     pub kind: K,
     /// The octets after the header: at most 4077, or 65516 where long messages are agreed on (RFC 8654).
     pub body: &'a [u8],
-    /// The octets of the whole message, as its header says: the body's and 19 more.
+    /// The length of the whole message, as its header says: the body's and 19 octets more.
     pub len: u16,
 }
 
-/// What is there: less than a message, a message, or a header with a fault.
+/// Less than a message, a message, or a header with a fault.
 #[derive(Clone, Copy, Debug, PartialEq, Eq)]
 pub enum Step<'a, K: Copy = Kind> {
     /// The message needs more octets.
     More,
     /// A whole message.
     Frame(Frame<'a, K>),
-    /// A header that begins no message: nothing behind it can be read.
+    /// A header that begins no message: nothing after it can be read.
     Fault(HeadFault),
 }
 
@@ -63,7 +63,7 @@ pub fn front_of<G: Grammar>(grammar: G, piece: &[u8]) -> Step<'_, G::Kind>
 }
 
 /// What a piece of a stream begins with: what a new framer that is fed the piece shows, borrowed from the piece
-/// (RFC 4271, sections 4.1 and 6.1). Octets behind a whole message, or behind a header with a fault, have no effect.
+/// (RFC 4271, sections 4.1 and 6.1). Octets after a whole message, or after a header with a fault, have no effect.
 #[inline(always)]
 pub fn front(piece: &[u8]) -> Step<'_>
     ensures { ShowsFront piece.now result }
@@ -71,7 +71,7 @@ pub fn front(piece: &[u8]) -> Step<'_>
     front_of(Plain, piece)
 }
 
-/// What octets show that a framer may hold: there are none after their front.
+/// What the octets that a framer holds show: there are none after the first message.
 #[tactic(auto, using(crate::proofs::Holding::front_held))]
 #[inline(always)]
 pub(crate) fn shown<G: Grammar>(grammar: G, octets: &[u8]) -> Step<'_, G::Kind>

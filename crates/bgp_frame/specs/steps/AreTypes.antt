@@ -1,6 +1,6 @@
 -- Headers say the types and lengths of each grammar.
 use Rattle.std.specs.Prelude.{◌≡◌}
-use Rattle.bgp_wire.proofs.Std.{ℕ, ◌≤◌, ◌<◌, ◌^◌, Bool, true, false, cond, eqb, Option, Some, None, option_map, refl, sym, ap, subst, ◌∙◌, arith}
+use Rattle.bgp_wire.proofs.Std.{ℕ, ◌≤◌, ◌<◌, ◌^◌, Bool, true, false, cond, eqb, Option, Some, None, option_map, refl, ap, subst, ◌∙◌, arith}
 use Rattle.std.proofs.lemmas.Bool.{eqb-true}
 use Rattle.bgp_numbers.specs.declared.message.TheConstants.{OPEN, UPDATE, NOTIFICATION, KEEPALIVE, ROUTE_REFRESH}
 use Rattle.bgp_frame.specs.declared.kind.Kind.{Kind}
@@ -8,7 +8,7 @@ use Rattle.bgp_frame.specs.declared.kind.Kind.TheVariants.{Open, Update, Notific
 use Rattle.bgp_frame.specs.declared.kind.WideKind.{WideKind}
 use Rattle.bgp_frame.specs.declared.kind.WideKind.TheVariants as wide
 use Rattle.bgp_frame.specs.declared.grammar.WideGrammar.{WideGrammar}
-use Rattle.bgp_frame.specs.Types.{AreTypes, IsLengthIn, Types}
+use Rattle.bgp_frame.specs.Types.{AreTypes}
 use Rattle.bgp_frame.specs.Kind.{plain, code_of, kind_of, least_length, most_length}
 use Rattle.bgp_frame.specs.WideKind.{base_most, limit_of, wide_code, wide_kind, wide_least, wide_most, wide_types}
 

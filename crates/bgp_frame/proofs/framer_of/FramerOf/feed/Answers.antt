@@ -1,7 +1,7 @@
 use Rattle.std.proofs.Common.{ap, ap₂, refl, ◌∙◌, ◌+◌, arith}
 use Rattle.bgp_frame.specs.Prelude.{wanted_in}
 use Rattle.bgp_frame.proofs.FrameLemmas.{wanted-bounds}
-use Rattle.bgp_frame.proofs.Feeding.{Fed, feeds, feeds_as, takes_some}
+use Rattle.bgp_frame.proofs.Feeding.{feeds, feeds_as, takes_some}
 use Rattle.bgp_frame.proofs.framer_of.FramerOf.feed.Goals as goal
 
 pub fill-requires : goal.fill-requires
