@@ -2,11 +2,11 @@
 use Rattle.ristulva_c.proofs.Below.{◌≡◌, ℕ, ◌+◌, List, ◌++◌, length, take, drop, Some, append_assoc, refl, sym, ap, subst, ◌∙◌, arith, w16, to_be_bytes, drop_at, take_at, take-append-drop, drop-drop, AreOctets, Message, IsFrame, header, Parts, IsBody, parts_of, AreOctets-take, AreOctets-back, parts-body, length-header}
 use Rattle.ristulva_c.specs.Prelude.{parts_told, Lie}
 
--- what stands behind a piece
+-- what follows a piece
 behind : (b pre post : List ℕ) (n m : ℕ) → drop n b ≡ pre ++ post → m ≡ n + length pre → drop m b ≡ post
 behind b pre post n m is e = ap (λ (k : ℕ). drop k b) e ∙ sym (drop-drop (length pre) n b) ∙ ap (drop (length pre)) is ∙ drop_at pre post (length pre) refl
 
--- the piece that stands there
+-- the piece at this offset
 there : (b x post : List ℕ) (n : ℕ) → drop n b ≡ x ++ post → take (length x) (drop n b) ≡ x
 there b x post n is = ap (take (length x)) is ∙ take_at x post (length x) refl
 
