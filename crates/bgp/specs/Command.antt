@@ -1,4 +1,4 @@
--- What the program does with its words.
+-- What the program does with its command line.
 use Rattle.std.specs.Prelude.{◌≡◌, ◌≢◌, ◌⊎◌, ℕ, Bool, true, false, List, [], Option, Result, Err, if◌then◌else◌}
 use Rattle.std.specs.Io.KnownBytes.{Keeps}
 use Rattle.clap.specs.Words.{IsAmong, Text}
@@ -28,12 +28,12 @@ pub record RunsScript (io : Io) (outcome : Result Tally ToolFault) : Type 0 wher
   pub unread : Keeps io.reader_old io.reader_new
   pub ran : RunsFile io.writer_old io.writer_new outcome
 
--- and what came of each move was written before the report
+-- and the trace of its moves was written before the report
 pub record TracesScript (io : Io) (outcome : Result Tally ToolFault) : Type 0 where
   pub unread : Keeps io.reader_old io.reader_new
   pub ran : TracesFile io.writer_old io.writer_new outcome
 
--- the file of the other direction had some octets, and the engine ran by these
+-- the file of the other direction was read, and the engine ran by its octets
 pub record RanBy (reports : List ℕ → Reports) (hex : Bool) (io : Io) (outcome : Result Tally ToolFault) : Type 0 where
   pub theirs : List ℕ
   pub answers : engine.Answers (reports theirs) hex io outcome
@@ -87,7 +87,7 @@ pub record HasRun (request : Request) (io : Io) (answer : ℕ) : Type 0 where
   pub ran : Runs request io outcome
   pub is_status : answer ≡ status_of outcome
 
--- what is narrowed has AS numbers of four octets
+-- what is narrowed has 4-octet AS numbers
 abbrev pub IsWide : Request → Type 0
 IsWide (Narrow (Flags ctx)) = ctx.as4 ≡ true
 IsWide _ = Unit {0}

@@ -1,4 +1,4 @@
--- What is taken of a piece lies within it.
+-- What is consumed of a piece lies within it.
 use Rattle.std.proofs.Common.{◌≤◌, ℕ, List, length, Option}
 use Rattle.arrayvec.specs.ArrayVec.{ArrayVec}
 use Rattle.bgp_machine.specs.Pulling as pulling

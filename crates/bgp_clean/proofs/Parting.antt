@@ -1,4 +1,4 @@
--- The octets of the messages that stand for an UPDATE.
+-- The octets of the messages that replace an UPDATE.
 use Rattle.bgp_clean.proofs.Prelude.{◌≡◌, ℕ, ◌+◌, ◌<◌, ◌≤◌, Bool, true, false, ◌||◌, cond, eqb, List, [], ◌∷◌, length, refl, sym, ap, ◌∙◌, flat_map, or_from, le-ltb, append-nil, if◌then◌else◌}
 use Rattle.bgp_clean.proofs.Prelude.{Context, IPV6, Update, Message, attributes_octets, canonical, written_body, written, length-octets_of, end_of, end_unreach, refuses_in}
 use Rattle.bgp_frame.specs.Prelude.{octets_of}
@@ -15,7 +15,7 @@ use Rattle.bgp_frame.specs.steps.AreTypes.{plain-are}
 pub update_long : (ctx : Context) (u : Update) → length (updates_octets ctx (u ∷ [])) ≡ 19 + length (written_body ctx u)
 update_long ctx u = ap length (append-nil (octets_of (written ctx (Message.Update u)))) ∙ length-octets_of plain plain-are (written ctx (Message.Update u))
 
--- ---- what goes on of an announcement
+-- ---- what is passed on of an announcement
 
 module _ (ctx : Context) (l : Limits) (part gone : Update) where
   -- it is refused, or not

@@ -19,12 +19,12 @@ module _ (ctx : Context) (drops : ℕ → Bool) (refuses : Update → Bool) wher
   more-unchanged first (n ∷ []) later some all rest = (all.0, rest)
   more-unchanged first (n ∷ m ∷ ns) later some all rest = (all.0, more-unchanged false (m ∷ ns) later (omega arith) all.1 rest)
 
-  -- cleaned one by one they are themselves
+  -- cleaned one by one they are unchanged
   each-alone : (first : Bool) (ns : List Message) → AreUnchanged ctx drops refuses first ns → cleaned_from ctx drops refuses first (map (written ctx) ns) ≡ map (λ n. n ∷ []) ns
   each-alone first [] all = refl
   each-alone first (n ∷ ns) all = ap₂ (λ (r : Result (List Message) CleanFault) (later : List (List Message)). handed_then r later) all.0 (each-alone false ns all.1)
 
-  -- what is said of the messages that go on, of a stream from its first message or a later one
+  -- what is claimed of the messages that are passed on, of a stream from its first message or a later one
   record AreClean (first : Bool) (ms : List frame.Message) (each : List (List Message)) : Type 0 where
     taken : AllByRecursion (IsTakenAsItself ctx) (joined_messages each)
     again : AreUnchanged ctx drops refuses first (joined_messages each)

@@ -49,6 +49,6 @@ module _ (s : List ℕ) (f : HeadFault) (long : 19 ≤ length s) (faulty : head_
   pub fault_first : first_message s ≡ None
   fault_first = rw (fault_whole, faulty) refl
 
--- a message at the front
+-- a stream that begins with a message
 pub front_open : (s : List ℕ) (m : Message) (n : ℕ) → (n ≤ length s) × IsFrame m (take n s) → open_in m.kind m.body ≡ first_open s
 front_open s m n shows = sym (frame_open m (take n s) shows.1 (drop n s)) ∙ ap first_open (take-append-drop n s)

@@ -1,4 +1,4 @@
--- A walk over the messages of a stream is a hearer of octets, and what it comes to octet by octet is the report of the stream.
+-- A walk over the messages of a stream is a receiver of octets, and its result octet by octet is the report of the stream.
 use Rattle.bgp_engine.proofs.Prelude.{◌≡◌, ℕ, zero, suc, ◌+◌, ◌<◌, ◌≤◌, ◌^◌, Bool, true, false, List, [], ◌∷◌, ◌++◌, length, take, drop, Option, Some, None}
 use Rattle.bgp_engine.proofs.Prelude.{option_map, Result, Ok, Err, refl, sym, ap, subst, ◌∙◌, append_assoc, arith, inl, inr, take-append-drop, cases_lt}
 use Rattle.bgp_engine.proofs.Prelude.{take-append_seam, drop-append_seam, if◌then◌else◌, is_none, is_some, not, append-nil, length-append, length-drop}
@@ -20,9 +20,9 @@ use Rattle.bgp_frame.specs.steps.AreTypes.{plain-are}
 pub is_hearer : {Outcome : Type 0} → IsHearer (walker {Outcome = Outcome})
 is_hearer = record { types = plain-are; held_so = λ w held. refl; held_same = λ w. refl; held_last = λ w a b. refl; listens_so = λ w held. refl; emptied = λ w said. refl }
 
--- ---- what a walk comes to is a report
+-- ---- the result of a walk is a report
 
--- the octets of a message, which isn't empty, are as many
+-- the octets of a message, which isn't empty, are the first n of the stream
 octets_at-some : (n : ℕ) (s : List ℕ) → 0 < n → octets_at n s ≡ take n s
 octets_at-some zero s some = absurd (omega (arith, some))
 octets_at-some (suc n) s some = rw (eqb-suc-zero n) refl
@@ -37,7 +37,7 @@ module _ {Outcome : Type 0} (rules : Rules Outcome) where
   abbrev HasReport : ℕ → Tally → List ℕ → Type 0
   HasReport place tally s = IsReport rules place tally s (heard place tally s)
 
-  -- octets that can be held can be held before the others come
+  -- octets that can be held can be held before the others arrive
   held_first : (place : ℕ) (tally : Tally) (held later : List ℕ) → IsHeld held
       → by_octets walker (front place tally) (held ++ later) ≡ left_to_do walker (walking rules held place tally None) later
   held_first place tally held later can =
@@ -55,7 +55,7 @@ module _ {Outcome : Type 0} (rules : Rules Outcome) where
     abbrev next : Option End → Walking Outcome
     next ended = walking rules [] (place + passed rules o) (counted tally o.0 (rules.class o.1)) ended
 
-    -- the report of what stands behind it
+    -- the report of what follows it
     abbrev report_behind : List ℕ → List (ℕ × Outcome) → End → Report
     report_behind s os e = report_of rules (place + passed rules o) (counted tally o.0 (rules.class o.1)) s os e
 
@@ -66,7 +66,7 @@ module _ {Outcome : Type 0} (rules : Rules Outcome) where
         ∙ ap (λ (n : ℕ). take n (held ++ later)) (sym size) ∙ take-append_seam held later
     its_octets (Err f) faulty = ap (λ (n : ℕ). take n (held ++ later)) (sym faulty.0) ∙ take-append_seam held later
 
-    -- it is written and counted, and then what stands behind it
+    -- it is written and counted, and then what follows it
     report_content : (os : List (ℕ × Outcome)) (e : End) → Gives rules.judge (held ++ later) (o ∷ os) e
         → reported (by_octets walker (next (ended_by rules what)) later) ≡ report_behind (drop (passed rules o) (held ++ later)) os e → HasReport place tally (held ++ later)
     report_content os e gives rest =
@@ -83,7 +83,7 @@ module _ {Outcome : Type 0} (rules : Rules Outcome) where
               ∙ rw (its_octets what is, drop-drop (total rules os) (passed rules o) (held ++ later), place_is) refl;
         }
 
-    -- behind the end of a stream nothing is heard
+    -- after the end of a stream nothing is received
     none_heard : (e : End) → by_octets walker (next (Some e)) later ≡ record { actions = []; session = next (Some e) }
     none_heard e = hearings.drops_all walker is_hearer (next (Some e)) refl nothing_waits plain plain-are later
 
@@ -139,7 +139,7 @@ messages_in-bound : (n : ℕ) → messages_in n ≤ 1
 messages_in-bound zero = omega arith
 messages_in-bound (suc n) = rw (eqb-suc-zero n) (omega arith)
 
--- behind the end of a stream its octets don't count
+-- after the end of a stream its octets don't count
 passed-bound : (resets : Bool) (n : ℕ) → (if resets then 0 else n) ≤ n
 passed-bound true n = omega arith
 passed-bound false n = omega arith
@@ -170,7 +170,7 @@ module _ {Outcome : Type 0} where
   abbrev done : List ℕ → Walking Outcome → Done (Walking Outcome) ℕ
   done actions w = record { actions = actions; session = w }
 
-  -- what a walk reports of what it holds and of octets behind that is their report
+  -- what a walk reports of what it holds and of the octets after that is their report
   pub reports_report : (w : Walking Outcome) (later : List ℕ) (r : Report) → w.ended ≡ None → IsHeld w.held → AreOctets later → reports_of w later r → IsReport w.rules w.place w.tally (w.held ++ later) r
   reports_report w later r e can octets q =
       subst (IsReport w.rules w.place w.tally (w.held ++ later))
@@ -209,7 +209,7 @@ module _ {Outcome : Type 0} where
           writes.told,
         )
 
-  -- a walk that stands behind another holds no more octets, and is ready
+  -- a walk after another: its held octets end no later in the stream, and it is ready
   abbrev Stands : Walking Outcome → Walking Outcome → Type 0
   Stands old new = (new.place + length new.held ≤ old.place + length old.held) × IsReady new
 
@@ -236,14 +236,14 @@ module _ {Outcome : Type 0} where
     judges_stand : (line : List ℕ) (new : Walking Outcome) → Judges walker w line new → Stands w new
     judges_stand line new j = subst (Stands w) (sym j.leaves) (stands_judged j.what j.is_held)
 
-  -- ---- what is heard is what is done octet by octet
+  -- ---- what is received does what its octets do one by one
 
   pub hears_pulled : (old new : Walking Outcome) (octets t0 t1 : List ℕ) (n : ℕ) → IsJudged old new t0 t1 octets (Some n) → Hears old new t0 t1 octets n
   hears_pulled old new octets t0 t1 n j =
       let h = hearings.pulls_as_fed walker is_hearer old octets n (Some j.0) new j.1 in
       record { found = Some j.0; call = (h.fed, h.next); told = j.2 }
 
-  -- nothing was there to judge, so octets were fed, and what is held then is judged
+  -- there was nothing to judge, so octets were fed, and what is held then is judged
   module _ (old mid new : Walking Outcome) (octets held t0 t1 t2 : List ℕ) (n : ℕ) (unended : old.ended ≡ None) (first : IsJudged old mid t0 t1 octets None)
       (counts : hearing.CountsFed true mid.held octets n) (is : held ≡ mid.held ++ take n octets) where
     is_fed : hearing.IsFed walker old octets n (behind_feed walker old octets n)
@@ -310,7 +310,7 @@ module _ {Outcome : Type 0} where
         ready = q.ready;
       }
 
-  -- what is held is judged, and whatever follows is left to do
+  -- what is held is judged, and whatever follows remains to be done
   pub moves_judged : (old new : Walking Outcome) (t0 t1 rest : List ℕ) (found : Option ℕ) → old.ended ≡ None → IsCounting old → IsJudged old new t0 t1 [] found → Moves old new t0 t1 rest rest
   moves_judged old new t0 t1 rest None unended c j =
       subst (λ (w : Walking Outcome). Moves old w t0 t1 rest rest) (sym j.1)
@@ -331,14 +331,14 @@ module _ {Outcome : Type 0} where
       ap (hearing.behind first.actions) (hearings.in_parts walker is_hearer first.session a b)
       ∙ ap (λ (lines : List ℕ). done lines back.session) (sym (append_assoc first.actions front.actions back.actions))
 
-  -- nothing is left to do where what is held waits and no octets come, or the stream has ended
+  -- nothing is left to do where what is held is incomplete and no octets arrive, or the stream has ended
   pub waits_still : (w : Walking Outcome) → Waits w.held → left_to_do walker w [] ≡ done [] w
   waits_still w waits = hearings.waiting walker is_hearer w [] waits
 
   over_still : (w : Walking Outcome) → is_none w.ended ≡ false → Waits w.held → (later : List ℕ) → left_to_do walker w later ≡ done [] w
   over_still w deaf waits later = hearings.waiting walker is_hearer w later waits ∙ hearings.drops_all walker is_hearer w deaf waits later
 
-  -- where the octets were heard up to a rest that does nothing, others can follow
+  -- where the octets were received up to a rest that does nothing, others can follow
   pub goes_on : (old new : Walking Outcome) (t0 t1 octets rest : List ℕ) (p : Moves old new t0 t1 octets rest) → left_to_do walker new rest ≡ done [] new → GoesOn (reports_of old) octets p.lines (reports_of new)
   goes_on old new t0 t1 octets rest p still later r q =
       ap (behind p.lines) (q ∙ ap reported (hearings.waiting walker is_hearer new later p.ready.waits))
@@ -393,7 +393,7 @@ module _ {Outcome : Type 0} where
         closes = subst (λ (d : End). ClosesBy (r d) t0 t1 answer) (sym ends) by;
       }
 
-  -- ---- the front of a stream
+  -- ---- the beginning of a stream
 
   pub front_ready : (rules : Rules Outcome) → IsReady (front rules 0 no_tally)
   front_ready rules = counting_ready _ (record { octets = AreOctets-nil; place = omega arith; counts = omega arith }) refl (nothing_waits plain plain-are)
@@ -401,7 +401,7 @@ module _ {Outcome : Type 0} where
   pub front_report : (rules : Rules Outcome) (s : List ℕ) (r : Report) → AreOctets s × reports_of (front rules 0 no_tally) s r → IsReport rules 0 no_tally s r
   front_report rules s r q = reports_report (front rules 0 no_tally) s r refl (record { octets = AreOctets-nil; within = omega arith }) q.0 q.1
 
--- nothing is written of octets that wait where the stream is over
+-- nothing is written of an incomplete message where the stream is over
 pub none_wait : {Outcome : Type 0} (rules : Rules Outcome) (held : List ℕ) (e : End) → IsOver e → rest_of rules held e ≡ []
 none_wait rules held End.Reset over = refl
 none_wait rules held End.Head over = refl

@@ -13,7 +13,7 @@ module _ (rules : Rules) (silent : Bool) (s : Sight) (up : listens_in s ≡ true
   waits_on : (held : List ℕ) → Waits held → heard rules silent (holding s held) ≡ holding s held
   waits_on held waits = ap (heard_as rules silent (holding s held)) (content_of-waits plain plain-are held waits)
 
-  -- so it is for octets that can all be held
+  -- for octets that can all be held
   pub fed_at_once : (front : List ℕ) → Waits s.this.held → IsHeld (s.this.held ++ front)
       → by_octets rules silent s front ≡ heard rules silent (holding s (s.this.held ++ front))
   fed_at_once [] waits is = sym (waits_on s.this.held waits) ∙ ap (λ (h : List ℕ). heard rules silent (holding s h)) (sym (append-nil s.this.held))
@@ -25,7 +25,7 @@ module _ (rules : Rules) (silent : Bool) (s : Sight) (up : listens_in s ≡ true
       ap (λ (x : Sight). by_octets rules silent x (next ∷ later)) (takes_one held octet ∙ waits_on (held ++ octet ∷ []) more_waits) ∙ goes)
       is s.this.held octet front refl
 
--- what is fed is settled, so the octets are heard
+-- what is fed is judged, so the octets are received
 module _ (rules : Rules) (silent : Bool) (s : Sight) (piece : List ℕ) (n : ℕ) (came : Came) (new : Sight) where
   pub fed_is_heard : (fed : List ℕ) → listens_in s ≡ true → Waits s.this.held → Counts true s.this.held piece n → fed ≡ s.this.held ++ take n piece → IsHeld fed
       → IsSettled rules silent (holding s fed) came new → IsHeardBy rules silent s piece n came new

@@ -1,4 +1,4 @@
--- An octet of a side keeps both directions handed over.
+-- An octet of a side keeps the invariant of both directions.
 use Rattle.bgp_guard.proofs.Prelude.{◌≡◌, ℕ, zero, suc, ◌+◌, ◌<◌, Bool, true, false, cond, List, [], ◌∷◌, ◌++◌, length, Option, Some, None, option_map}
 use Rattle.bgp_guard.proofs.Prelude.{Result, Ok, Err, refl, sym, ap, subst, ◌∙◌, arith, inl, inr, and_parts, cases_lt, not-false, ◌&&◌, not, is_some}
 use Rattle.bgp_guard.proofs.Prelude.{true≢false, append-nil, length-append, AreOctets, has_octet, HeadFault, Kind, IsFrame, Waits, IsHeld, head_notification}
@@ -16,7 +16,7 @@ use Rattle.bgp_frame.specs.steps.AreTypes.{plain-are}
 
 -- ---- what is held
 
--- one octet more can be held
+-- one more octet can be held
 pub held_more : (held : List ℕ) (octet : ℕ) → IsHeld held → Waits held → octet < 256 → IsHeld (held ++ octet ∷ [])
 held_more held octet is waits small =
     let all : length (held ++ octet ∷ []) ≡ length held + 1 = length-append held (octet ∷ []) in
@@ -45,7 +45,7 @@ pub record Goes (rules theirs : Rules) (silent others : Bool) (s : Seen) : Type 
 
 -- ---- an octet
 
--- a message in its place is none that is out of it
+-- a message that is in place isn't out of place
 in_place : (b : Bool) (subcode : ℕ) → (let found : Option ℕ = cond b (Some subcode) None in found ≡ None) → b ≡ false
 in_place true subcode e = absurd cc
 in_place false subcode e = refl
@@ -95,7 +95,7 @@ module _ (rules theirs : Rules) (silent others : Bool) (n : ℕ) (this other : H
           other = refit theirs others other.held other.peer this.peer (Some (said_by p)) o.came t.given this.way (ap is_some none) b;
         })
 
-    -- behind both OPENs
+    -- after both OPENs
     on_goes : (k : Kind) (body : List ℕ) → (k ≡ Kind.Open → ⊥) → (k ≡ Kind.Notification → ⊥) → IsFrame (record { kind = k; body = body }) (this.held ++ octet ∷ []) → both_open free ≡ true
         → cleaned ctx (has_octet rules.drops) (refusal rules ctx this.peer) true (record { kind = k; body = body }) ≡ Ok m
         → Alive rules silent [] this.peer other.peer (t.came ++ octet ∷ []) o.given (other.way ++ flat_map (canonical ctx) (said_as silent k m))

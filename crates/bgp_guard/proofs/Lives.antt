@@ -1,4 +1,4 @@
--- Whatever happens, both directions stay handed over.
+-- Whatever happens, the invariant of both directions is kept.
 use Rattle.bgp_guard.proofs.Prelude.{◌≡◌, ℕ, suc, Bool, true, false, List, [], ◌∷◌, ◌++◌, Option, Some, None, refl, sym, ◌∙◌, AllByRecursion, and_parts, ◌&&◌, not, nat_lt}
 use Rattle.bgp_guard.proofs.Prelude.{if◌then◌else◌, true≢false, append-nil, IsHeld_nil, Rules, Side, Stage, expired, late_answer, notice, rejected, shutdown, Half, runs, agreed, Notification, Said}
 use Rattle.bgp_guard.proofs.Prelude.{aged, closed_if, cut_if, farewell, is_due, keeps_alive, kept_if, stopped_if, is_waiting, late, ticked_in, waited, IsHandedOver, HandsOn, HandsOver, IsOctetIn, Event, Stood, Unreached}

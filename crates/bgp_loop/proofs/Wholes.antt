@@ -1,4 +1,4 @@
--- What octets are: a message, a header with a fault, or neither.
+-- The content of octets: a message, a header with a fault, or neither.
 use Rattle.bgp_wire.proofs.Std.{◌≡◌, ℕ, ◌≤◌, Bool, true, false, List, length, take, drop, None, Some, Ok, Err, if◌then◌else◌, ◌==◌, refl, sym, ap, subst, ◌∙◌, arith, length-take-le, take-append-drop}
 use Rattle.std.proofs.lemmas.Bool.{eq-eqb, eqb-true}
 use Rattle.std.proofs.lemmas.List.{take_all}
@@ -20,11 +20,11 @@ by_test b true is not = absurd (not (eqb-true (length b) (wanted b) is))
 whole_not : (b : List ℕ) → (length b ≡ wanted b → ⊥) → whole_of b ≡ None
 whole_not b not = by_test b (length b == wanted b) refl not
 
--- octets that want more
+-- incomplete octets
 pub none_waits : (b : List ℕ) → Waits b → whole_of b ≡ None
 none_waits b waits = whole_not b (λ is. omega (arith, waits, is))
 
--- so many octets of them are a message
+-- the first n octets of them are a message
 module _ (m : Message) (b : List ℕ) (len : ℕ) (within : len ≤ length b) (is : IsFrame m (take len b)) where
   all_frame : len ≡ length b → IsFrame m b
   all_frame same = subst (IsFrame m) (take_all len b (omega (arith, same))) is

@@ -1,4 +1,4 @@
--- A session is a hearer of octets: pulls, looks and feeds are ways to hear them, and events leave it at rest.
+-- A session is a receiver of octets: pulls, looks and feeds are ways to receive them, and events leave it at rest.
 use Rattle.bgp_machine.proofs.Prelude.{◌≡◌, ℕ, Bool, true, false, List, [], Option, Some, None, refl, sym, subst, Settings, Action, Event, IsAtRest, by_look}
 use Rattle.bgp_machine.proofs.Prelude.{by_pull, Machine, fresh, kept, after_event, hearer, Standing, listens, happens, IsFedAndJudged, IsHearer, IsWay}
 use Rattle.bgp_machine.proofs.Prelude.{not_both, waits_at, rests_ready, rests_empty, pull_is_way}

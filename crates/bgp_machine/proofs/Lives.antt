@@ -1,4 +1,4 @@
--- What is kept through a whole life: what the octets that were taken are, in each state.
+-- Invariants of a whole life: what the consumed octets are, in each state.
 use Rattle.bgp_machine.proofs.Prelude.{◌≡◌, ℕ, Bool, true, false, List, [], ◌∷◌, ◌++◌, take, Option, Some, None, Result, Ok, Err, option_map, refl, sym, ap}
 use Rattle.bgp_machine.proofs.Prelude.{subst, ap₂, ◌∙◌, append_assoc, arith, if◌then◌else◌, nil_from_length, HeadFault, Kind, Message, IsFrame, IsHeld}
 use Rattle.bgp_machine.proofs.Prelude.{content_of, CountsFed, done_by, Notification, Context, agreement, Settings, Said, said_by, open_notification}
@@ -26,7 +26,7 @@ record BeginsByOpen (s : Settings) (context : Option Context) (held octets : Lis
   opened : IsAgreedOpen s context spelled
   in_order : octets ≡ spelled ++ held
 
--- what the octets are that were taken, in each state
+-- what the consumed octets are, in each state
 abbrev Stands : Settings → State → Option Context → List ℕ → List ℕ → Type 0
 Stands s State.OpenSent ctx held taken = taken ≡ held
 Stands s State.OpenConfirm ctx held taken = BeginsByOpen s ctx held taken
@@ -169,7 +169,7 @@ module _ (s : Settings) (ctx : Option Context) (peer : Option Said) (running : T
 
 -- ---- calls
 
--- what is kept of a whole life
+-- the invariant of a whole life
 record Sound (s : Settings) (a : Life) : Type 0 where
   settings : a.session.settings ≡ s
   can_hold : IsHeld a.session.held
@@ -235,7 +235,7 @@ eats_keeps s a piece b sound eats =
       stands = fed_stands s x.state x.context a.session.held piece a.taken n eats.fed.0 sound.stands;
     })
 
--- a pull is a feed, with a step behind it where something is found
+-- a pull is a feed, with a step after it where something is found
 hears_keeps_life : (s : Settings) (a : Life) (piece : List ℕ) (n : ℕ) (found : Option (List Action)) (b : Life) → Sound s a → AreOctets piece
     → by_pull a.session piece n found b.session → b.taken ≡ a.taken ++ take n piece → Sound s b
 hears_keeps_life s a piece n None b sound octets call took =

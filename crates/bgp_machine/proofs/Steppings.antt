@@ -1,4 +1,4 @@
--- Steps behind a feed, until one gives nothing, do what one step does.
+-- Steps after a feed, until one gives nothing, do what one step does.
 use Rattle.bgp_machine.proofs.Prelude.{◌≡◌, ℕ, zero, suc, List, [], ◌∷◌, ◌++◌, drop, Option, Some, None, refl, sym, ap, subst, ◌∙◌, Action}
 use Rattle.bgp_machine.proofs.Prelude.{Machine, hearer, StepsUntilNone, by_steps, by_one_step, Calls, IsReady, Judges, Run, Runs, Way, IsWay, SomeCall}
 use Rattle.bgp_machine.proofs.Prelude.{content_stops, not_whole, judged_empty, empty_waits, feed_is_way, can_feed}
@@ -28,7 +28,7 @@ from_one x piece n (Some actions) y s =
     let waits = empty_waits hearer is_hearer y (judged_empty hearer is_hearer _ actions y s.1) in
     (s.0, (0, record { first = actions; between = y; gives = s.1; rest = []; goes_on = ((waits, refl), refl); in_order = sym (append-nil actions) }))
 
--- ---- call behind call
+-- ---- call after call
 
 module _ (one other : Way Machine Action) (so : (x : Machine) (piece : List ℕ) (n : ℕ) (found : Option (List Action)) (y : Machine) → one x piece n found y → other x piece n found y) where
   calls_as : (calls : ℕ) (piece : List ℕ) (x : Machine) (actions : List Action) (y : Machine) → Calls one calls piece x actions y → Calls other calls piece x actions y
@@ -54,7 +54,7 @@ module _ (one other : Way Machine Action) (so : (x : Machine) (piece : List ℕ)
     in_order = r.in_order;
   }
 
--- ---- a way to hear
+-- ---- a way to receive
 
 pub steps_are_way : IsWay hearer is_hearer by_steps
 steps_are_way = record {

@@ -20,7 +20,7 @@ use Rattle.bgp_frame.specs.steps.AreTypes.{plain-are}
 abbrev pub Outs : Type 0
 Outs = List (ℕ × Outcome)
 
--- ---- what comes of the octets that are held
+-- ---- the outcomes of the held octets
 
 module _ (old : Decoding) (octets : List ℕ) (n : ℕ) (before : Outs) (going : old.stopped ≡ false) where
   abbrev j : StreamRules Outcome
@@ -32,7 +32,7 @@ module _ (old : Decoding) (octets : List ℕ) (n : ℕ) (before : Outs) (going :
   abbrev behind : List ℕ → List ℕ
   behind more = drop n octets ++ more
 
-  -- what comes of the octets that are held and those behind them, comes of all
+  -- the outcomes of the held octets and those after them are the outcomes of all
   of_whole : (more : List ℕ) (os : Outs) (e : End) → Gives j (z.held ++ behind more) os e → Gives j (old.held ++ (octets ++ more)) os e
   of_whole more os e g =
       subst (λ (s : List ℕ). Gives j s os e)
@@ -111,11 +111,11 @@ further old mid new octets rest rest1 before told outs ended first second =
           (first.later more (second.fresh ++ others) e (later more others e l));
     }
 
--- where the stream has ended, the rest is gone
+-- where the stream has ended, the rest is ignored
 pub over : (old new : Decoding) (octets rest : List ℕ) (before outs : Outs) (e : End) → Decodes old octets before outs rest (Some e) new → Decodes old octets before outs [] (Some e) new
 over old new octets rest before outs e d = record { stands = tt; fresh = d.fresh; told = d.told; later = d.later }
 
--- all octets of a piece were taken: more of them come
+-- all octets of a piece were consumed: more follow
 with_more : (old mid : Decoding) (octets piece : List ℕ) (before told : Outs) → Decodes old octets before told [] None mid → Decodes old (octets ++ piece) before told piece None mid
 with_more old mid octets piece before told first = record {
   stands = first.stands;
@@ -139,7 +139,7 @@ module _ {X : Type 0} (octets_of : X → List ℕ) (pieces : List X) (i : ℕ) w
   pieces_left : flat_map octets_of pieces ≡ flat_map octets_of (take i pieces) ++ flat_map octets_of (drop i pieces)
   pieces_left = ap (flat_map octets_of) (sym (take-append-drop i pieces)) ∙ flat_map-append octets_of (take i pieces) (drop i pieces)
 
--- one piece more
+-- one more piece
 pub one_more : (ctx : Context) (pieces : List (Bor (List ℕ))) (i : ℕ) (mid new : Decoding) (told outs : Outs) → i < length pieces → Decodes (fresh ctx) (flat_map octets_in (take i pieces)) [] told [] None mid
     → (d : Bor (List ℕ)) (r ended : Option End) → r ≡ ended → Decodes mid (octets_in (get_or pieces i d)) told outs [] r new → Decodes (fresh ctx) (flat_map octets_in (take (i + 1) pieces)) [] outs [] ended new
 one_more ctx pieces i mid new told outs lt first d r ended is more =
@@ -149,7 +149,7 @@ one_more ctx pieces i mid new told outs lt first d r ended is more =
     (subst (λ (s : List ℕ). Decodes (fresh ctx) s [] outs [] r new) (sym (one_piece octets_in pieces i d lt))
     (further (fresh ctx) mid new (front ++ piece) piece [] [] told outs r (with_more (fresh ctx) mid front piece [] told first) more))
 
--- all is told, whatever comes behind
+-- all outcomes are reported, whatever follows
 gives_all : (ctx : Context) (front more : List ℕ) (outs : Outs) (ended : Option End) (d : Decoding) (e : End) → Decodes (fresh ctx) front [] outs [] ended d → IsLater ctx ended (d.held ++ more) [] e
     → Gives (stream_rules ctx) (front ++ more) outs e
 gives_all ctx front more outs ended d e c l = subst (λ (os : Outs). Gives (stream_rules ctx) (front ++ more) os e) (append-nil c.fresh ∙ sym c.told) (c.later more [] e l)

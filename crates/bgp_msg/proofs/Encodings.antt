@@ -1,4 +1,4 @@
--- Bodies that are written are as long as their kind allows, and come to the message that was meant.
+-- Encoded bodies are as long as their kind allows, and decode to the message that was meant.
 use Rattle.bgp_wire.proofs.Std.{cond, ◌||◌, ◌≡◌, ℕ, ◌+◌, ◌≤◌, Bool, true, false, ltb, List, [], ◌∷◌, length, Option, Some, None, Result, Ok, Err, IsTrue, OnOk, IsErrOf, refl, sym, ap, arith, list_any, ltb-true, ltb-false, or_parts}
 use Rattle.std.specs.Prelude.{is_none}
 use Rattle.std.proofs.lemmas.Bool.{true≢false}

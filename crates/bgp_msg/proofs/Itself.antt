@@ -1,4 +1,4 @@
--- A valid message that fits is taken as itself.
+-- A valid message that fits is accepted as itself.
 use Rattle.std.proofs.Common.{◌≡◌, ◌+◌, ◌≤◌, Bool, true, false, cond, length, Option, Some, None, refl, ap, arith}
 use Rattle.bgp_frame.specs.Prelude.{IsFrame, IsLength}
 use Rattle.bgp_frame.proofs.FrameLemmas.{length-octets_of}
@@ -26,7 +26,7 @@ good_by true e = absurd cc
 good_by false e = refl
 
 module _ (ctx : Context) where
-  -- a frame, by how long its body is
+  -- a frame, by the length of its body
   frame_of : (m : Message) → IsLength (kind_of m) (19 + length (body_of ctx m)) → IsFrame (written ctx m) (canonical ctx m)
   frame_of m allowed = record {
     octets = refl;

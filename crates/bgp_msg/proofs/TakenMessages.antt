@@ -1,4 +1,4 @@
--- A message that was taken can be written, in no more octets.
+-- An accepted message can be written, and is no longer than what was read.
 use Rattle.bgp_wire.proofs.Std.{◌≡◌, ℕ, ◌+◌, ◌≤◌, Bool, cond, List, [], length, Option, Some, None, Result, Ok, Err, refl, sym, ap, subst, arith}
 use Rattle.std.proofs.lemmas.List.{length-drop}
 use Rattle.bgp_wire.specs.Prelude.{AreOctets}
@@ -78,7 +78,7 @@ pub taken-can : (ctx : Context) (m : frame.Message) (b : List ℕ) (said : Messa
 taken-can ctx m b said notes octets f is =
     body_by ctx b m.body (length-IsFrame plain plain-are m b f) m.kind f.allowed (AreOctets-back (header m.kind (19 + length m.body)) m.body (subst AreOctets f.octets octets)) said notes is
 
--- the octets of the message needn't be there
+-- the octets of the message aren't needed
 pub taken-body : (ctx : Context) (m : frame.Message) (said : Message) (notes : List Note) → AreOctets m.body → IsLength m.kind (19 + length m.body) → out_of ctx m ≡ outcome.Took said notes
     → CanBeWritten ctx said (octets_of m)
 taken-body ctx m said notes octets allowed is =

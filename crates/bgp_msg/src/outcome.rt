@@ -30,7 +30,7 @@ impl Outcome {
             _ => false,
         }
     }
-    /// An equal outcome, with memory of its own.
+    /// An equal outcome, owned.
     ///
     /// # Errors
     /// `AllocError` where an allocation failed.

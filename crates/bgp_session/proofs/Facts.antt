@@ -1,4 +1,4 @@
--- What two ends need to know of what is below them: how messages are spelled and read, and what both agree on.
+-- Facts on the layers below that two ends need: how messages are written and read, and what both agree on.
 use Rattle.bgp_session.proofs.Prelude.{◌≡◌, ℕ, ◌+◌, ◌≤◌, Bool, true, false, List, [], ◌∷◌, ◌++◌, length, Option, None, Some, Ok, refl, ap, ◌∙◌, arith}
 use Rattle.bgp_session.proofs.Prelude.{ltb-false, Notification, Kind, Message, octets_of, IsFrame, IsLength, length-octets_of, Context, Settings, IsOpen}
 use Rattle.bgp_session.proofs.Prelude.{reading_of, field_for, offered, own_of, why_unsent, told_with, told_in, told_octets, is_told_too_long, own_octets}
@@ -23,7 +23,7 @@ use Rattle.bgp_session.proofs.Sayings.{Said, SaidOpen, SaidKeepalive, SaidNotifi
 use Rattle.bgp_frame.specs.Kind.{plain}
 use Rattle.bgp_frame.specs.steps.AreTypes.{plain-are}
 
--- ---- how it is spelled
+-- ---- how it is written
 
 pub open_spelled : (s : Settings) → own_octets s ≡ spelling s SaidOpen
 unfolding own_octets open_body spelling
@@ -60,7 +60,7 @@ own_length p q r n field hold (a ∷ b ∷ []) four = absurd (omega arith)
 own_length p q r n field hold (a ∷ b ∷ c ∷ []) four = absurd (omega arith)
 own_length p q r n field hold (a ∷ b ∷ c ∷ d ∷ e ∷ id) four = absurd (omega arith)
 
--- octets of a message are its frame, by how long its body is
+-- octets of a message are its frame, by the length of its body
 frame_of : (m : Message) → IsLength m.kind (19 + length m.body) → IsFrame m (octets_of m)
 frame_of m allowed = record {
   octets = refl;

@@ -1,4 +1,4 @@
--- A connection that is made: both ends are told, and each has an OPEN in flight towards it.
+-- A connection that is made: both ends get the event, and each has an OPEN in flight towards it.
 use Rattle.bgp_session.proofs.Prelude.{◌≡◌, ℕ, Bool, true, false, List, [], ◌∷◌, ◌++◌, refl, sym, ap, subst, ◌∙◌, append-nil, Waits, nothing_waits, Settings}
 use Rattle.bgp_session.proofs.Prelude.{Action, Event, State, Timers, Machine, own_octets, timers_behind, Timer, Side, End, with_session, towards, Note, Pair}
 use Rattle.bgp_session.proofs.Prelude.{pair, told, seeks, joined_end}

@@ -1,4 +1,4 @@
--- Octets that are fed keep what is kept of two ends.
+-- Octets that are fed keep the invariant of two ends.
 use Rattle.bgp_session.proofs.Prelude.{◌≡◌, ℕ, Bool, true, List, [], ◌∷◌, ◌++◌, length, map, Option, Some, Ok, option_map, refl, sym, ap, subst, ◌∙◌}
 use Rattle.bgp_session.proofs.Prelude.{append_assoc, arith, inl, inr, AllByRecursion, length-append, Message, IsFrame, Waits, done_by, with_octet, HeadFault}
 use Rattle.bgp_session.proofs.Prelude.{nothing_waits, Result, Settings, Action, State, Timers, Done, settled, by_octet, by_octets, Machine, holding, hearer}
@@ -37,7 +37,7 @@ octet_first side p octet later actions y is =
 rests : (x : Machine) → Waits x.held → settled x ≡ done [] x
 rests x waits = hearings.rests hearer is_hearer x waits
 
--- what is done on an octet, and that it keeps what is kept
+-- what is done on an octet, and that it keeps the invariant
 pub record Keeps (wide : Bool) (mine theirs : Settings) (allowed : Note → Type 0) (side : Side) (hand : List ℕ) (octet : ℕ) (p : Pair) : Type 0 where
   pub actions : List Action
   pub session : Machine
@@ -70,7 +70,7 @@ module _ (wide : Bool) (mine theirs : Settings) (allowed : Note → Type 0) (sid
   abbrev Hearing : Stage → List ℕ → Type 0
   Hearing from h = IsHearing wide theirs mine from h (hand ++ e.flight) other.session.standing.state other.sent e.got
 
-  -- where it is taken
+  -- where it is accepted
   module _ (st : State) (from : Stage) (up : listens st ≡ true)
       (way : (h : List ℕ) → Hearing from h → Goes wide theirs mine st h hand e.flight other.session.standing.state other.sent e.got)
       (on : (m : Said) → Was st → HearsNow from m → KeepsMessage st m) (was : Was st) where

@@ -1,4 +1,4 @@
--- What a pull shows is what the octets that it takes show one by one.
+-- A pull shows what the octets that it consumes show one by one.
 use Rattle.bgp_session.proofs.Prelude.{◌≡◌, ℕ, Bool, true, false, List, [], ◌∷◌, ◌++◌, map, take, drop, Option, None, Some, option_map, Result}
 use Rattle.bgp_session.proofs.Prelude.{Bor, refl, sym, ap, ap₂, subst, ◌∙◌, append_assoc, inl, inr, option_copied, take-append-drop, append-nil, ArrayVec}
 use Rattle.bgp_session.proofs.Prelude.{AreOctets, Context, HeadFault, Message, Waits, IsHeld, Takes, CountsFed, Judges, behind_feed, with_octet, Action}
@@ -21,7 +21,7 @@ module _ (side : Side) where
       ap (λ (l : List Sight). octet_seen side x octet ++ l) (seen_in_parts y a b)
       ∙ sym (append_assoc (octet_seen side x octet) (octets_seen side y a) (octets_seen side (by_octets y a).session b))
 
-  -- nothing is shown of what waits
+  -- nothing is shown of an incomplete message
   waits_unseen : (x : Machine) → Waits x.held → settled_seen side x ≡ []
   waits_unseen x waits = ap (step_seen side x) (idles hearer is_hearer x waits)
 
@@ -30,7 +30,7 @@ module _ (side : Side) where
       ap (λ (l : List Sight). l ++ octets_seen side (settled x).session rest) (waits_unseen x waits)
       ∙ ap (λ (d : Done). octets_seen side d.session rest) (rests hearer is_hearer x waits)
 
-  -- octets that aren't taken show nothing
+  -- octets that aren't accepted show nothing
   module _ (x : Machine) (deaf : listens x.standing.state ≡ false) (waits : Waits x.held) where
     drops_one : (octet : ℕ) → octet_seen side x octet ≡ []
     drops_one octet = ap (λ (b : Bool). came_if b side octet ++ settled_seen side (holding x (with_octet b x.held octet))) deaf ∙ waits_unseen x waits
@@ -51,7 +51,7 @@ module _ (side : Side) where
     held_one held octet waits =
         ap (λ (b : Bool). (settled (holding x (with_octet b held octet))).session) up ∙ ap (λ (d : Done). d.session) (rests hearer is_hearer (holding x (held ++ octet ∷ [])) waits)
 
-    -- octets that can all be held come, and then what is held is judged
+    -- octets arrive that can all be held, and then what is held is judged
     seen_front : (front : List ℕ) → Waits x.held → IsHeld (x.held ++ front) → octets_seen side x front ≡ map (Came side) front ++ settled_seen side (holding x (x.held ++ front))
     seen_front [] waits is = sym (waits_unseen x waits) ∙ ap (λ (h : List ℕ). settled_seen side (holding x h)) (sym (append-nil x.held))
     seen_front (octet ∷ front) waits is =
@@ -65,7 +65,7 @@ module _ (side : Side) where
         ∙ ap (λ (l : List Sight). Came side octet ∷ l) goes)
         is x.held octet front refl
 
-  -- octets are taken that can all be held
+  -- octets are consumed that can all be held
   seen_taking : (x : Machine) (piece : List ℕ) (n : ℕ) → listens x.standing.state ≡ true → Waits x.held → IsHeld x.held → AreOctets piece → Takes x.held piece n
       → left_seen side x piece ≡ map (Came side) (take n piece) ++ left_seen side (holding x (x.held ++ take n piece)) (drop n piece)
   seen_taking x piece n up waits is octets takes =
@@ -80,7 +80,7 @@ module _ (side : Side) where
       (ap (λ (d : Done). octets_seen side d.session back) (front_by_octets hearer is_hearer x up front waits fits))
       ∙ append_assoc (map (Came side) front) (settled_seen side z) (octets_seen side (settled z).session back)
 
-  -- what is held is judged, and the rest comes to a session that holds nothing
+  -- what is held is judged, and the rest goes to a session that holds nothing
   seen_judging : (x : Machine) (actions : List Action) (y : Machine) (rest : List ℕ) → Judges hearer x actions y
       → left_seen side x rest ≡ Heard side x.standing.context y.standing.state actions ∷ left_seen side y rest
   seen_judging x actions y rest j =
@@ -92,7 +92,7 @@ module _ (side : Side) where
       ∙ ap (λ (l : List Sight). Heard side x.standing.context y.standing.state actions ∷ l)
       (sym (left_waiting y rest (empty_waits hearer is_hearer y (judged_empty hearer is_hearer x actions y j))))
 
-  -- a feed shows the octets that it takes
+  -- a feed shows the octets that it consumes
   seen_none : (x : Machine) (piece : List ℕ) (n : ℕ) → n ≡ 0 → left_seen side x piece ≡ map (Came side) (take n piece) ++ left_seen side (behind_feed hearer x piece n) (drop n piece)
   seen_none x piece n none =
       subst (λ (k : ℕ). left_seen side x piece ≡ map (Came side) (take k piece) ++ left_seen side (behind_feed hearer x piece k) (drop k piece)) (sym none)
@@ -114,7 +114,7 @@ module _ (side : Side) where
 -- ---- what an observer has of a pull
 
 module _ {S : Type 0} (after : S → Sight → S) (s t : S) (side : Side) (x : Machine) (piece : List ℕ) (ready : IsReady x) (octets : AreOctets piece) where
-  -- once these octets came
+  -- once these octets arrived
   abbrev then_came : ℕ → S
   then_came n = observed after s (map (Came side) (take n piece))
 

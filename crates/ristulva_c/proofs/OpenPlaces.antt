@@ -42,7 +42,7 @@ is_read kind.Update body o e = absurd cc
 is_read kind.Notification body o e = absurd cc
 is_read kind.Keepalive body o e = absurd cc
 
--- the parameters of a message of so many octets
+-- the parameters of a message of length n
 parameters_at : (octets : List ℕ) (n : ℕ) (m : Message) → n ≤ length octets → 29 ≤ n → IsFrame m (take n octets) → between octets 29 n ≡ drop 10 m.body
 parameters_at octets n m within long frame =
     let head = header m.kind (19 + length m.body) in

@@ -4,11 +4,11 @@ use Rattle.ristulva_c.specs.Prelude.{parts_told, Lie}
 use Rattle.bgp_frame.specs.Kind.{plain}
 use Rattle.bgp_frame.specs.steps.AreTypes.{plain-are}
 
--- what stands behind a piece
+-- what follows a piece
 behind : (b pre post : List ℕ) (n m : ℕ) → drop n b ≡ pre ++ post → m ≡ n + length pre → drop m b ≡ post
 behind b pre post n m is e = ap (λ (k : ℕ). drop k b) e ∙ sym (drop-drop (length pre) n b) ∙ ap (drop (length pre)) is ∙ drop_at pre post (length pre) refl
 
--- the piece that stands there
+-- the piece at this offset
 there : (b x post : List ℕ) (n : ℕ) → drop n b ≡ x ++ post → take (length x) (drop n b) ≡ x
 there b x post n is = ap (take (length x)) is ∙ take_at x post (length x) refl
 

@@ -1,4 +1,4 @@
--- What a decoder gives of the octets that it holds, in pieces.
+-- What a decoder gives of its held octets, in pieces.
 use Rattle.ristulva_c.proofs.Below.{◌≡◌, ℕ, ◌≤◌, ◌⊎◌, Bool, false, not, nat_le, if◌then◌else◌, List, [], ◌++◌, length, take, Result, Ok, Err, Some, refl, sym, ap, subst, ◌∙◌, arith, inl, inr, both_ways, le-leb, take_all, AreOctets, HeadFault, Step, Message, Waits, ShowsFront, ShowsStep, Stops, Takes, IsContent, Outcome, Decoding, decoder, given_by, IsFed, IsPulled, holding, IsLook, Stops-wanted}
 use Rattle.bgp_frame.proofs.Holding.{front_held}
 use Rattle.bgp_msg.specs.declared.look.Look.TheVariants as look
@@ -49,7 +49,7 @@ module _ (d : Decoding) (piece : List ℕ) (n k : ℕ) (o : Outcome) (new : Deco
       in_context (Ok m) is = is
       in_context (Err f) is = is
 
--- ---- what waits behind a feed
+-- ---- what is incomplete after a feed
 
 pub waits : (d : Decoding) → d.stopped ≡ false → IsLook d [] look.Feed → Waits d.held
 waits d going looks =

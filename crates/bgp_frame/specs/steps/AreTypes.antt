@@ -1,6 +1,6 @@
 -- Headers say the types and lengths of each grammar.
-use Rattle.std.specs.Prelude.{◌≡◌}
-use Rattle.bgp_wire.proofs.Std.{ℕ, ◌≤◌, ◌<◌, ◌^◌, Bool, true, false, cond, eqb, Option, Some, None, option_map, refl, ap, subst, ◌∙◌, arith}
+use Rattle.std.specs.Prelude.{◌≡◌, ◌≤◌, ◌<◌, ◌^◌}
+use Rattle.bgp_wire.proofs.Std.{ℕ, Bool, true, false, cond, eqb, Option, Some, None, option_map, refl, ap, subst, ◌∙◌, arith}
 use Rattle.std.proofs.lemmas.Bool.{eqb-true}
 use Rattle.bgp_numbers.specs.declared.message.TheConstants.{OPEN, UPDATE, NOTIFICATION, KEEPALIVE, ROUTE_REFRESH}
 use Rattle.bgp_frame.specs.declared.kind.Kind.{Kind}

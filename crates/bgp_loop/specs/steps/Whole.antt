@@ -1,4 +1,4 @@
--- A step of the proof: what octets are shown to be. Only private functions cite it.
+-- A step of the proof: the content of octets. Only private functions cite it.
 use Rattle.std.specs.Prelude.{◌≡◌, ℕ, ◌+◌, List, length, None, Some, Ok, Err}
 use Rattle.bgp_frame.specs.Step.{Step}
 use Rattle.bgp_frame.specs.Prelude.{IsLength}

@@ -1,4 +1,4 @@
--- What an OPEN at the front of octets tells of its speaker, where there is one.
+-- What the OPEN that octets begin with says of its speaker, where there is one.
 use Rattle.std.specs.Prelude.{◌≡◌, ℕ, List, Result, Ok, Err}
 use Rattle.bgp_frame.specs.Step.{Step}
 use Rattle.bgp_frame.specs.Prelude.{ShowsFront}
