@@ -74,3 +74,6 @@ pub const ADMINISTRATIVE_RESET: u8 = 4;
 
 /// Cease: Connection Rejected (RFC 4486, section 3).
 pub const CONNECTION_REJECTED: u8 = 5;
+
+/// ROUTE-REFRESH Message Error: Invalid Message Length (RFC 7313, section 5).
+pub const INVALID_REFRESH_LENGTH: u8 = 1;

@@ -4,7 +4,7 @@ use Rattle.std.specs.List.{list_any}
 use Rattle.std.proofs.Math.Bool.{or-false, or_assoc}
 use Rattle.std.proofs.lemmas.List.{append-nil}
 use Rattle.bgp_numbers.specs.declared.afi.TheConstants.{IPV4, IPV6}
-use Rattle.bgp_terms.specs.declared.capability.TheConstants.{ROUTE_REFRESH, EXTENDED_MESSAGE, ENHANCED_ROUTE_REFRESH}
+use Rattle.bgp_numbers.specs.declared.capability.TheConstants.{ROUTE_REFRESH, EXTENDED_MESSAGE, ENHANCED_ROUTE_REFRESH}
 use Rattle.bgp_open.specs.declared.capability.Capability.{Capability}
 use Rattle.bgp_terms.specs.declared.family.Family.{Family}
 use Rattle.bgp_terms.specs.declared.paths.Role.TheVariants.{Reads, Sends}

@@ -4,7 +4,7 @@ use Rattle.std.specs.Prelude.{ℕ, Bool, true, false, ◌&&◌, ◌||◌, ◌==�
 use Rattle.std.specs.Int.{w16, from_be_bytes}
 use Rattle.std.specs.List.{list_any}
 use Rattle.bgp_numbers.specs.declared.afi.TheConstants.{IPV4, IPV6}
-use Rattle.bgp_terms.specs.declared.capability.TheConstants.{ROUTE_REFRESH, EXTENDED_NEXT_HOP, EXTENDED_MESSAGE, ENHANCED_ROUTE_REFRESH}
+use Rattle.bgp_numbers.specs.declared.capability.TheConstants.{ROUTE_REFRESH, EXTENDED_NEXT_HOP, EXTENDED_MESSAGE, ENHANCED_ROUTE_REFRESH}
 use Rattle.bgp_numbers.specs.declared.safi.TheConstants.{UNICAST}
 use Rattle.bgp_open.specs.declared.capability.Capability.{Capability}
 use Rattle.bgp_open.specs.declared.capability.Capability.TheVariants.{Multi, As4, Other}

@@ -4,11 +4,10 @@ ghost use Rattle.std.specs.Prelude.{◌≡◌, ◌||◌};
 ghost use Rattle.bgp_open.specs.Prelude.{capability_value, open_value, said_by, said_of};
 ghost use Rattle.bgp_terms.specs.Prelude.{also_family, families_in, has_hop6, is_hop6, is_hop_row, offered_by, offered_in, offers_hop6, offers_plain, one_or_none, opaque_of};
 
-use crate::capability;
 use crate::families::Families;
 use crate::family::Family;
 use crate::paths::{Role, offers_role};
-use bgp_numbers::{afi, safi};
+use bgp_numbers::{afi, capability, safi};
 use bgp_open::{CapabilityView, Open, OpenView, Peer};
 
 /// The OPEN parameters of a speaker, and what it offers beyond AS numbers of four octets and unicast routes of IPv4 and IPv6. A capability

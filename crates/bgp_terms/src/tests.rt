@@ -2,7 +2,6 @@
 
 ghost use Rattle.std.specs.Prelude.{◌≤◌, length};
 
-use crate::capability;
 use crate::families::Families;
 use crate::family::Family;
 use crate::member::Member;
@@ -10,6 +9,7 @@ use crate::negotiated::Terms;
 use crate::offers::{Offers, offers_in, offers_of};
 use crate::refreshes::Refreshes;
 use crate::wide_terms::terms;
+use bgp_numbers::capability;
 use bgp_open::{Context, view_open};
 use std::test::*;
 
