@@ -1,4 +1,4 @@
--- Headers say the types and lengths of each grammar.
+-- Proofs that headers say the types and lengths of each grammar: a law of a trait takes its proof from `specs/`.
 use Rattle.std.specs.Prelude.{◌≡◌, ◌≤◌, ◌<◌, ◌^◌}
 use Rattle.bgp_wire.proofs.Std.{ℕ, Bool, true, false, cond, eqb, Option, Some, None, option_map, refl, ap, subst, ◌∙◌, arith}
 use Rattle.std.proofs.lemmas.Bool.{eqb-true}
