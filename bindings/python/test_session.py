@@ -147,7 +147,7 @@ class Life(unittest.TestCase):
         one, other = established()
         self.assertEqual(one.happens(Event.KEEPALIVE_EXPIRED), [Send(message(4)), Arm(Timer.KEEPALIVE, 10)])
         self.assertEqual(one.happens(Timer.RETRY.expired), [])
-        # A timer that has run out doesn't run.
+        # A timer that has expired doesn't run.
         self.assertEqual(one.happens(Timer.HOLD.expired), [notification(4, 0), *[it for it in LEFT if it != Disarm(Timer.HOLD)]])
         self.assertEqual(other.happens(Event.FAILED), LEFT[1:])
 

@@ -31,11 +31,11 @@ class Event(enum.IntEnum):
 
     START = 1  # the operator wants the session
     STOP = 2  # the operator ends it
-    RETRY_EXPIRED = 9  # a timer has run out
+    RETRY_EXPIRED = 9  # a timer has expired
     HOLD_EXPIRED = 10
     KEEPALIVE_EXPIRED = 11
     CONNECTED = 16  # the connection is up
-    FAILED = 18  # the connection, or the try for one, failed
+    FAILED = 18  # the connection, or the attempt at one, failed
 
 
 class State(enum.IntEnum):

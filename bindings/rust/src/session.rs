@@ -10,7 +10,7 @@ pub enum Event {
     Start,
     /// The operator ends it.
     Stop,
-    /// A timer has run out.
+    /// A timer has expired.
     Expired(Timer),
     /// The connection is up.
     Connected,
