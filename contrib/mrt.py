@@ -7,7 +7,7 @@ the file.
         print(archive.left_out)
 
 A record is a BGP message, with its octets, or a change of a session's state. It is from BGP4MP and BGP4MP_ET, or from an entry of TABLE_DUMP_V2, which
-becomes an UPDATE of its own with 4-octet AS numbers. What is left out is counted by kind. Where the file is damaged, `Damage` tells it behind
+becomes an UPDATE of its own with 4-octet AS numbers. What is left out is counted by kind. Where the file is damaged, `Damage` reports it after
 the last record before that.
 """
 import bz2

@@ -1,9 +1,9 @@
 #!/usr/bin/env python3
-"""tables.py PROGRAM FOLDER: whether `ristulva.table` tells of each stream in a folder what `PROGRAM show --json` prints of it.
+"""tables.py PROGRAM FOLDER: whether `ristulva.table` reports of each stream in a folder what `PROGRAM show --json` prints of it.
 
 FOLDER/streams.json lists the streams: of each its name, the flags of its context, its file there, and whether it is tried many times over too. Routes,
-origin AS, places of values, numbers of paths, communities and large communities have to be those of the objects, in their order, in whatever room they
-are read; and so has what ends the stream. What AS_PATH and AS4_PATH give together is reckoned here once more, from the objects (RFC 6793, section 4.2.3).
+origin AS, spans of values, numbers of paths, communities and large communities have to be those of the objects, in their order, in whatever room they
+are read; and so has what ends the stream. What AS_PATH and AS4_PATH give together is computed here once more, from the objects (RFC 6793, section 4.2.3).
 
 `check` runs it, by a Python that has numpy. The last line counts: N passed, M failed."""
 import ipaddress
