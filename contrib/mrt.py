@@ -415,8 +415,8 @@ class Archive:
         return end if end <= len(block) else None
 
     def keep_known(self, block, at):
-        """Adds messages to those that are kept, as long as each has the form of the last one that was read, and all is known that stands before its
-        body: then nothing in it has to be read. Answers where the first begins of which that isn't so.
+        """Adds messages to those that are kept, as long as each has the form of the last one that was read, and all is known that precedes its
+        body: then nothing in it has to be read. Answers the offset of the first that isn't.
         """
         form, end = self.form, len(block)
         known, begin, has_no_micro = form.known.get, form.begin, form.begin == HEAD.size

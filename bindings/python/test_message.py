@@ -338,7 +338,7 @@ class Cleaning(unittest.TestCase):
             self.assertRaises((TypeError, ValueError), ristulva.judge(it, self.context).clean, types=types)
 
     def test_nothing_left(self):
-        """That is no End-of-RIB, but what is one stays one (RFC 4724, section 2)."""
+        """That isn't an End-of-RIB, but what is one stays one (RFC 4724, section 2)."""
         self.becomes(self.update("c0140101", ""), message(4, b""), (0, 1, 0), types=[20])
         self.becomes(self.update("", ""), self.update("", ""), (0, 0, 0), types=[20])
 

@@ -206,7 +206,7 @@ class Buffers(unittest.TestCase):
             ristulva.table("text", FOUR)
 
     def test_mapped(self):
-        """A file that is mapped is read in place, and can be closed once its table is gone."""
+        """A file that is mapped is read in place, and can be closed once its table is freed."""
         with tempfile.TemporaryFile() as file:
             file.write(STREAM)
             file.flush()
