@@ -120,7 +120,7 @@ fn tell_look<E: Write>(errors: &mut E, request: &Request, look: Look) {
     };
 }
 
-// Prints what input with a faulty first header looks like: text that is read as digits, by an offset before each line.
+// Prints what input with a faulty first header looks like: for text that is read as digits, by an offset before each line.
 fn tell_no_header<E: Write>(errors: &mut E, request: &Request, first: &[u8]) {
     let found = if is_of_text(request) {
         dump_of(first)

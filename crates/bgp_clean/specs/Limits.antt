@@ -55,7 +55,7 @@ is_from_another (Some number) path = not (is_from number path)
 
 -- ---- what isn't passed on
 
--- the attributes of an announcement exceed the limits
+-- the attributes of an announcement violate the limits
 abbrev pub breaks : Limits → Update → Bool
 breaks l u =
     (l.host_next_hops && not (has_host_hops u)) || (

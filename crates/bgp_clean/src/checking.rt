@@ -1,4 +1,4 @@
-//! Whether an announcement exceeds the owner's limits.
+//! Whether an announcement violates the owner's limits.
 
 ghost use Rattle.std.specs.List.{list_any};
 ghost use Rattle.std.specs.Prelude.{◌≡◌, ◌&&◌, ◌==◌, not, true, nat_lt, length, option_map};
@@ -179,7 +179,7 @@ fn has_bad_hop(limits: &Limits, part: &PartView<'_, '_, '_>) -> bool
     limits.host_next_hops && !(has_host_next_hop(part.next_hop()) && has_host_reach(&part.reach()))
 }
 
-/// Whether a part that announces routes exceeds the owner's limits.
+/// Whether a part that announces routes violates the owner's limits.
 pub(crate) fn breaks(limits: &Limits, part: &PartView<'_, '_, '_>) -> bool
     requires { is_announcing part.now.part ≡ true }
     ensures { result ≡ breaks limits.now (part_value part.now) }

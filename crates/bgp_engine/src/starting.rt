@@ -62,8 +62,8 @@ fn settle<P: Page>(
     }
 }
 
-// Judges the first message, which is whole and whose header has no fault, and handles it by a separate rule where there
-// is one.
+// Decides how a stream begins by its first message, which is whole and whose header has no fault, and handles that
+// message by a separate rule where there is one.
 fn begin<P: Page>(
     alloc: Global,
     theirs: Option<&[u8]>,
@@ -90,7 +90,7 @@ impl<P: Page> Walk<P> {
     ghost use Rattle.bgp_engine.specs.steps.Starting.{IsFresh, Settles, starts_of};
     ghost use Rattle.bgp_engine.specs.steps.Walking.{IsCounting, walk_of};
 
-    // Judges the first message, where it is whole.
+    // Decides how the stream begins, where its first message is whole.
     fn begin(&mut self, alloc: Global, theirs: Option<&[u8]>) -> Result<Stage, AllocError>
         requires counting { IsCounting (walk_of P.rules self.old) }
         requires fresh { IsFresh (walk_of P.rules self.old) }

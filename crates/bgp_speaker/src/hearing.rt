@@ -22,7 +22,7 @@ const HEADER_LEN: usize = 19;
 /// The host of this program.
 pub(crate) type Speaker<'a> = Host<TcpConnection<'a>, Timers<'a>, Teller<'a>>;
 
-/// The context in which a message is printed that arrives before both have agreed on one.
+/// The context in which a message is printed that arrives before both have agreed on one: nothing is agreed on.
 const NARROW: Context = Context {
     internal: false,
     as4: false,

@@ -54,7 +54,7 @@ abbrev pub WritesForm : Option (List ℕ) → Writing → Type 0
 WritesForm None w = IsLeft UNWRITABLE w
 WritesForm (Some octets) w = IsWritten octets w
 
--- by the result of a body: it isn't accepted whole; or it is, and only then an allocation can fail
+-- by the result of a body: it isn't accepted whole; or it is, and only then can an allocation fail
 abbrev pub Writes : Option (Option (List ℕ)) → Writing → Type 0
 Writes None w = IsLeft REFUSED w
 Writes (Some form) w = WritesForm form w ⊎ IsLeft MEMORY w

@@ -89,7 +89,7 @@ module _ {Outcome : Type 0} where
   abbrev pub ReadyIn : Starting Outcome → Type 0
   ReadyIn s = ReadyAt s.stage s.walk
 
-  -- how a stream continues once its first octets, which are held, were judged, with this collected
+  -- how a stream continues once its first octets, which are held, were examined, with this collected
   abbrev pub SettlesAt : Stage → Starts Outcome → List ℕ → List ℕ → Walking Outcome → Type 0
   SettlesAt Stage.First starts held lines w = IsFirst w × (w.held ≡ held) × (lines ≡ [])
   SettlesAt Stage.Agreed starts held lines w =
