@@ -18,6 +18,9 @@ pub const FINITE_STATE_MACHINE: u8 = 5;
 /// Cease (RFC 4271, section 6.7).
 pub const CEASE: u8 = 6;
 
+/// ROUTE-REFRESH Message Error (RFC 7313, section 5).
+pub const ROUTE_REFRESH_MESSAGE: u8 = 7;
+
 /// Unspecific: the subcode of an error for which none is defined.
 pub const UNSPECIFIC: u8 = 0;
 
