@@ -54,7 +54,7 @@ def text_of(prefix):
 
 
 def on_wire(prefixes):
-    """Prefixes as they stand in a message."""
+    """Prefixes as in a message."""
     return b"".join(bytes([length]) + octets for length, octets in prefixes)
 
 
@@ -244,7 +244,7 @@ def write(path, octets):
 
 
 def make(folder, files, count):
-    """Makes for each collector a table and so many files of so many updates. Answers what they tell."""
+    """Makes for each collector a table and a number of files with a number of updates. Answers their content."""
     truth = Truth()
     for seed, collector in enumerate(COLLECTORS):
         place, maker = os.path.join(folder, collector), Maker(collector, seed, truth)

@@ -31,7 +31,7 @@ def messages_in(octets):
 
 
 def first(octets, count):
-    """The first so many messages."""
+    """The first messages, this many."""
     at = 0
     for _ in range(count):
         if at < len(octets):

@@ -67,7 +67,7 @@ class Draw:
         return b"".join(self.one6() for _ in range(count or self.random.choice((1, 1, 2, 5, 20))))
 
     def filled(self, one, room):
-        """As many prefixes as there is room for, with not an octet left."""
+        """As many prefixes as fit, without an octet to spare."""
         found = b""
         while len(found) < room:
             more = one()
@@ -269,7 +269,7 @@ class Draw:
         yield "MP_REACH_NLRI of IPv6 with a path of 500 ASes", self.update(self.origin() + self.path(*long(500)) + self.preference() + self.reach6(self.some6(1)))
 
     def many(self):
-        """Communities, as many as there are."""
+        """Communities, as many as given."""
         for count in (1, 100, 254, 500, 757, 900, 990):
             yield f"{count} communities", self.update(self.sound() + self.communities(count), self.some4(1))
         for count in (1, 21, 100, 250, 330):
@@ -367,7 +367,7 @@ class Draw:
         yield "a withdrawal of what isn't there", self.update(b"", b"", prefix("203.0.112.0/25"))
 
     def odd(self):
-        """Flags, orders and lengths that are allowed or that a hearer forgives."""
+        """Flags, orders and lengths that are allowed or that a receiver forgives."""
         parts = [self.origin(), self.usual_path(), self.hop(), attribute(0x80, 4, bytes(4)), self.communities(2), self.aggregator()] + [self.preference()] * (self.mode == INTERNAL)
         self.random.shuffle(parts)
         yield "attributes in another order", self.update(b"".join(parts), self.some4())
@@ -475,7 +475,7 @@ class Draw:
 
 
 def drawn(random, mode, count):
-    """Pairs of a name and an UPDATE: each shape, and random ones, so many in all at least."""
+    """Pairs of a name and an UPDATE: each shape, and random ones, at least this number in all."""
     draw = Draw(random, mode)
     groups = [draw.mixed, draw.routeless, draw.hops, draw.paths, draw.many, draw.full, draw.unknowns, draw.ends, draw.prefixes, draw.odd, draw.preferences]
     if mode == TWO_OCTETS:

@@ -7,7 +7,7 @@ import subprocess
 import threading
 import time
 
-# After so many seconds a browser is ended, whatever it does.
+# After this many seconds a browser is ended, whatever it does.
 LONGEST = 180
 
 # Whether the page is ready, or says that it can't be.
@@ -48,7 +48,7 @@ class Chromium:
             self.ask(name)
 
     def read(self):
-        """The next thing that the browser says."""
+        """The browser's next message."""
         while b"\0" not in self.held:
             more = os.read(self.answers.fileno(), 1 << 20)
             if not more:
@@ -125,7 +125,7 @@ class Firefox:
         raise RuntimeError("Firefox doesn't start")
 
     def read(self):
-        """The next thing that the browser says: its length, a colon, and JSON."""
+        """The browser's next message: its length, a colon, and JSON."""
         while True:
             size, colon, rest = self.held.partition(b":")
             if colon and len(rest) >= int(size):

@@ -38,7 +38,7 @@ pub record RanBy (reports : List ℕ → Reports) (hex : Bool) (io : Io) (outcom
   pub theirs : List ℕ
   pub answers : engine.Answers (reports theirs) hex io outcome
 
--- memory ran out, or that file couldn't be read: nothing was read of the reader, and nothing written
+-- an allocation failed, or that file couldn't be read: nothing was read of the reader, and nothing written
 pub record HasNoFile (io : Io) (outcome : Result Tally ToolFault) : Type 0 where
   pub fault : ToolFault
   pub fails : outcome ≡ Err fault
@@ -100,7 +100,7 @@ pub record RunsEngine (words : List Text) (io : Io) (answer : ℕ) : Type 0 wher
   pub without_fault : faults_of words ≡ []
   pub has_run : HasRun request io answer
 
--- 3 where memory ran out; 0 where help was asked for, and 4 where it couldn't be written; 2 else
+-- 3 where an allocation failed; 0 where help was requested, and 4 where it couldn't be written; 2 else
 pub record IsExplained (kind : ErrorKind) (answer : ℕ) : Type 0 where
   pub memory : kind ≡ error.OutOfMemory → answer ≡ 3
   pub help : (kind ≡ error.DisplayHelp) ⊎ (kind ≡ error.DisplayVersion) → (answer ≡ 0) ⊎ (answer ≡ 4)
@@ -110,7 +110,7 @@ pub record IsExplained (kind : ErrorKind) (answer : ℕ) : Type 0 where
 abbrev pub IsQuiet : ErrorKind → Option (List ℕ) → Option (List ℕ) → Type 0
 IsQuiet kind writer_old writer_new = kind ≢ error.DisplayHelp → kind ≢ error.DisplayVersion → Keeps writer_old writer_new
 
--- Nothing was read: the words meet an error, or memory ran out.
+-- Nothing was read: the words have an error, or an allocation failed.
 pub record Explains (words : List Text) (io : Io) (answer : ℕ) : Type 0 where
   pub unread : Keeps io.reader_old io.reader_new
   pub kind : ErrorKind

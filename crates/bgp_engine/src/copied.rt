@@ -64,8 +64,8 @@ impl Engine for Copier {
 /// reads as `show` does, and counts nothing.
 ///
 /// # Errors
-/// `Memory`, `Read` and `Write` at once, without a second try; `BadHex` at the first bad character. What was written before a fault
-/// stands.
+/// `Memory`, `Read` and `Write` at once, without a second try; `BadHex` at the first bad character. What was written
+/// before a fault remains.
 pub fn from_hex<R: Read, W: Write>(
     alloc: Global,
     input: &mut R,

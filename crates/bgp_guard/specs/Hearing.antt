@@ -91,7 +91,7 @@ abbrev pub known : Rules → Sight → frame.Message → Bool → Result (List M
 known rules s m true = Err (reset_by bad_peer_as)
 known rules s m false = cleans rules s m
 
--- ---- a message is judged where it is in its place
+-- ---- a message is judged where it is in place
 
 abbrev pub placed : Rules → Sight → frame.Message → Option ℕ → Result (List Message) Answers
 placed rules s m None = known rules s m (has_zero m.kind m.body)

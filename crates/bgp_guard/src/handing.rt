@@ -242,7 +242,7 @@ fn limits_in(rules: &Rules, ctx: &Context, peer: &Option<Peer>) -> Limits
     }
 }
 
-/// Cleans a whole message that is in its place, and passes it on or answers it.
+/// Cleans a whole message that is in place, and passes it on or answers it.
 fn pass(
     rules: &Rules,
     silent: bool,

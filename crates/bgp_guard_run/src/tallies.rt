@@ -46,7 +46,7 @@ struct Tally {
     reasons: Vec<Often>,
 }
 
-/// The counts of all neighbours, where they are asked for.
+/// The counts of all neighbours, where they are requested.
 #[derive(Drop)]
 pub(crate) struct Tallies {
     alloc: Global,

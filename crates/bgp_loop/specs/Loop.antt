@@ -95,13 +95,13 @@ pub record IsOfText (writer_old writer_new : Option (List ℕ)) (outcome : Resul
   pub failures : ℕ
   pub answers : Answers text (record { honest = true; failed_old = 0; failed_new = failures; writer_old = writer_old; writer_new = writer_new }) outcome
 
--- memory ran out, or the file couldn't be read
+-- an allocation failed, or the file couldn't be read
 abbrev pub IsOfFile : ToolFault → Type 0
 IsOfFile ToolFault.Memory = Unit {0}
 IsOfFile ToolFault.Read = Unit {0}
 IsOfFile _ = ⊥
 
--- memory ran out, the file couldn't be read or has too many octets, or the listener couldn't be set up
+-- an allocation failed, the file couldn't be read or has too many octets, or the listener couldn't be set up
 abbrev pub IsOfSetUp : ToolFault → Type 0
 IsOfSetUp ToolFault.Memory = Unit {0}
 IsOfSetUp ToolFault.Read = Unit {0}

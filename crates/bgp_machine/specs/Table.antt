@@ -131,7 +131,7 @@ abbrev pub on_agreement : Standing → Said → Result Context PeerFault → Ste
 on_agreement x peer (Ok ctx) = accepted x peer ctx
 on_agreement x peer (Err fault) = reset x (peer_notification fault)
 
--- the answer to a fault of an OPEN: only a failed allocation has none, which is no fault of a body
+-- the answer to a fault of an OPEN: only a failed allocation has none, which isn't a fault of a body
 abbrev pub answered : Standing → Option Notification → Step
 answered x (Some why) = reset x why
 answered x None = reset x (error OPEN_MESSAGE UNSPECIFIC [])

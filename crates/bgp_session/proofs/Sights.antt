@@ -141,7 +141,7 @@ module _ {S : Type 0} (after : S → Sight → S) (s t : S) (side : Side) (x : M
       let call = pulls_as_fed x piece n None y p in
       sees_fed n call.fed.0 ∙ ap₂ (λ (u : S) (m : Machine). observed after u (left_seen side m (drop n piece))) (sym told) (sym call.next)
 
-  -- nothing is left to be shown
+  -- nothing remains to be shown
   pub sees_none : (y : Machine) → IsPulled x piece 0 None y → t ≡ then_came 0 → observed after s (left_seen side x piece) ≡ t
   sees_none y p told =
       let waits = pull_waits hearer is_hearer x piece 0 y ready.holds_none p in

@@ -57,7 +57,7 @@ with_gone e routes = record { session = e.session; left = e.left; flight = e.fli
 
 -- ---- both ends
 
--- who sent a NOTIFICATION, with its code and subcode
+-- the sender of a NOTIFICATION, with its code and subcode
 abbrev pub Note : Type 0
 Note = Side × ℕ × ℕ
 

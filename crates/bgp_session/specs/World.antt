@@ -250,7 +250,7 @@ sends_seen side u w = tried_seen side (end_of side w).session u ∷ []
 
 -- ---- a schedule
 
--- what a move does; the answers of the wire are used up from the front
+-- what a move does; the answers of the wire are used up in order
 abbrev pub moved : Move → World → List Bool → Ran
 moved (Move.Start side) w answers = shown (tells_seen side Event.Start w) (ran (tells side Event.Start w) answers)
 moved (Move.Stop side) w answers = shown (tells_seen side Event.Stop w) (ran (tells side Event.Stop w) answers)

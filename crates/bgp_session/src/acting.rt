@@ -13,7 +13,7 @@ use bgp_update::Update;
 use bgp_wire::List;
 use std::alloc::{AllocError, Global};
 
-/// Who sent a NOTIFICATION, its code and its subcode.
+/// The sender, the code and the subcode of a NOTIFICATION.
 pub(crate) type Note = (Side, u8, u8);
 
 /// Does one thing that the session of `this` wants done.

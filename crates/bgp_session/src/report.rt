@@ -23,7 +23,7 @@ pub struct Round {
     pub gone_a: List<Routes>,
     /// The routes that B lost to messages that are treated as withdrawals.
     pub gone_b: List<Routes>,
-    /// The NOTIFICATIONs: who sent it, its code and its subcode.
+    /// The NOTIFICATIONs: the sender, the code and the subcode of each.
     pub notes: List<(Side, u8, u8)>,
 }
 
