@@ -7,7 +7,7 @@ the file.
         print(archive.left_out)
 
 A record is a BGP message, with its octets, or a change of a session's state. It is from BGP4MP and BGP4MP_ET, or from an entry of TABLE_DUMP_V2, which
-becomes an UPDATE of its own with 4-octet AS numbers. What is left out is counted by kind. Where the file is damaged, `Damage` tells it behind
+becomes an UPDATE of its own with 4-octet AS numbers. What is left out is counted by kind. Where the file is damaged, `Damage` reports it after
 the last record before that.
 """
 import bz2
@@ -32,7 +32,7 @@ PLAIN_BLOCK, PACKED_BLOCK, UNPACKED_BLOCK = 1 << 18, 1 << 15, 1 << 14
 # A longer record counts as damage: that of a prefix with an entry for each of 65535 peers stays below it.
 LONGEST_RECORD = 1 << 24
 
-# So many sessions, and headers of messages, are remembered, so that a file in which each is another needs no more memory.
+# The most sessions, and headers of messages, that are remembered, so that a file in which each is another needs no more memory.
 MOST_KNOWN = 1 << 16
 
 # A record's header: the time, type and subtype as one number, and the length. The time is in what is kept of it and of what follows: the second, the
@@ -415,7 +415,7 @@ class Archive:
         return end if end <= len(block) else None
 
     def keep_known(self, block, at):
-        """Adds messages to those that are kept, as long as each has the form of the last one that was read, and all is known that stands before its
+        """Adds messages to those that are kept, as long as each has the form of the last one that was read, and all is known that comes before its
         body: then nothing in it has to be read. Answers where the first begins of which that isn't so.
         """
         form, end = self.form, len(block)

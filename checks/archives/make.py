@@ -2,7 +2,7 @@
 """Makes a folder of MRT archives of two collectors, always the same for the same arguments, and reckons beside that what they tell: from the events by
 which they are made, and never by reading them.
 
-    make.py FOLDER FILES UPDATES     for each collector so many files of so many updates
+    make.py FOLDER FILES UPDATES     for each collector this number of files, of this number of updates each
 
 Each collector has a table dump and then files of updates: plain, gzip and bzip2 in turn. Messages have faults now and then, sessions fall and come up
 again, and of AS numbers one peer offers two octets."""

@@ -18,7 +18,7 @@ from ristulva import tables
 
 AS_TRANS = 23456
 ROOMS = (0, 4073, 4074, 9000)
-# So many rows aren't read in the least room at one go.
+# More rows than are read in the least room at one go.
 MANY = 9000
 
 

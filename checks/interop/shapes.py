@@ -36,7 +36,7 @@ def body_of(withdrawn, attributes, nlri):
 
 
 def room_of(withdrawn=b"", attributes=b"", nlri=b""):
-    """How many octets are free below the most that a message has."""
+    """The octets that are free below the most that a message has."""
     return MOST - 19 - len(body_of(withdrawn, attributes, nlri))
 
 
@@ -346,7 +346,7 @@ class Draw:
         yield "withdrawals of a VPN family", self.update(attribute(0x80, 15, b"\x00\x01\x80" + self.random.randbytes(20)))
 
     def prefixes(self):
-        """Prefixes that stand out."""
+        """Prefixes of unusual lengths and values."""
         same, other = self.one4(), self.one6()
         four = {
             "0.0.0.0/0": b"\x00", "0.0.0.0/1": b"\x01\x00", "0.0.0.0/8": b"\x08\x00", "0.0.0.0/32": b"\x20" + bytes(4), "127.0.0.0/8": b"\x08\x7f", "224.0.0.0/4": b"\x04\xe0",

@@ -66,7 +66,7 @@ static void stand(struct side *side)
     ristulva_guard_event(&guard, side->number, RISTULVA_SIDE_STOOD);
 }
 
-/* What came of trying to connect. */
+/* The outcome of trying to connect. */
 static void meet(struct side *side)
 {
     int error = 0;
@@ -152,7 +152,7 @@ static struct pollfd ask(struct side *side)
     return wait;
 }
 
-/* Does what poll told of a side: a socket that failed is told as ready for all. */
+/* Acts on what poll reported of a side: a socket that failed counts as ready for all. */
 static void serve(struct side *side, short ready)
 {
     if (ready & (POLLERR | POLLHUP))

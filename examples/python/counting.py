@@ -52,7 +52,7 @@ class Part:
         self.faults: list[str] = []
 
     def row(self, peer: str, prefix: str, state: Path) -> Row:
-        """The row of a prefix at a peer, which is new where this state is the first told of it. Behind a fall there was no route."""
+        """The row of a prefix at a peer, which is new where this state is the first known of it. After a session fell there was no route."""
         rows = self.rows.setdefault(peer, {})
         if prefix not in rows:
             state = None if peer in self.fallen else state
@@ -104,7 +104,7 @@ def path_of(message: ristulva.Message) -> Path:
 
 
 def counted(folder: str, name: str) -> Part:
-    """Counts an archive. A peer is told apart by the folder too, which is a collector's. Of a damaged file what stands before the damage is counted."""
+    """Counts an archive. A peer is identified by the folder too, which is a collector's. Of a damaged file what comes before the damage is counted."""
     part, collector = Part(), str(pathlib.PurePath(name).parent)
     warnings.simplefilter("ignore", ristulva.Incomplete)
     try:

@@ -37,7 +37,7 @@ BLUE, VERMILION = "#0072B2", "#D55E00"
 # The same data gives the same octets: identifiers come from this word and not by chance, and no date is written.
 matplotlib.rcParams.update({"svg.hashsalt": "ristulva", "svg.fonttype": "none", "font.size": 10, "axes.spines.top": False, "axes.spines.right": False})
 
-# So many peers have a panel of their own, those that told most; and so many steps in time at most.
+# The most peers with a panel of their own, those that sent most; and the most steps in time.
 PANELS, STEPS = 6, 90
 SECONDS = (1, 2, 5, 10, 20, 30, 60, 120, 300, 600, 1200, 1800, 3600, 7200, 14400, 21600, 43200, 86400)
 MESSAGES = tuple(digit * 10**power for power in range(9) for digit in (1, 2, 5))
@@ -246,7 +246,7 @@ def arguments() -> argparse.Namespace:
 def main() -> int:
     given = arguments()
     wrong: list[str] = []
-    # A stream's cut end is told by the program; what is drawn is the messages.
+    # A stream's cut end is reported by the program; what is drawn is the messages.
     warnings.simplefilter("ignore", ristulva.Incomplete)
     if len(given.files) == 1 and given.files[0].is_file() and is_stream(given.files[0]):
         seen = read_stream(given.files[0], ristulva.Context(given.internal, given.as4, given.ip4, given.ip6))
