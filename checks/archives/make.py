@@ -1,5 +1,5 @@
 #!/usr/bin/env python3
-"""Makes a folder of MRT archives of two collectors, always the same for the same arguments, and reckons beside that what they tell: from the events by
+"""Makes a folder of MRT archives of two collectors, always the same for the same arguments, and computes beside that what they have: from the events by
 which they are made, and never by reading them.
 
     make.py FOLDER FILES UPDATES     for each collector this number of files, of this number of updates each

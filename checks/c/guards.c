@@ -1,4 +1,4 @@
-/* Guards: each call, with invalid sides, handles without a guard and each allocation failing in turn; and sessions whose octets are handed on,
+/* Guards: each call, with invalid sides, handles without a guard and each allocation failing in turn; and sessions whose octets are passed on,
  * changed and answered, with their results written by hand, and others by chance:
  *
  *     guards

@@ -1,5 +1,5 @@
 #!/usr/bin/env python3
-"""tables.py PROGRAM FOLDER: whether `ristulva.table` tells of each stream in a folder what `PROGRAM show --json` prints of it.
+"""tables.py PROGRAM FOLDER: whether `ristulva.table` has of each stream in a folder what `PROGRAM show --json` prints of it.
 
 FOLDER/streams.json lists the streams: of each its name, the flags of its context, its file there, and whether it is tried many times over too. Routes,
 origin AS, places of values, numbers of paths, communities and large communities have to be those of the objects, in their order, in whatever room they

@@ -105,7 +105,7 @@ class Draw:
         return attribute(0x40, 5, struct.pack(">I", 100)) if self.mode == INTERNAL else b""
 
     def sound(self, hop="192.0.2.2"):
-        """Attributes of a route that nobody has anything against."""
+        """Attributes of a valid route."""
         return self.origin() + self.usual_path() + (self.hop(hop) if hop else b"") + self.preference()
 
     def communities(self, count):
@@ -317,7 +317,7 @@ class Draw:
         yield "an IPv6 route of 4096 octets by communities", self.update(basis + self.communities(count) + self.reach6(self.one6(128)))
 
     def unknowns(self):
-        """Attributes of types that nobody knows, or that few do."""
+        """Attributes of types that are unassigned, or rare."""
         for flags in (0xC0, 0x80, 0xE0, 0xF0):
             for size in (0, 1, 255, 256, 3000):
                 kind = self.random.choice((19, 99, 130, 200, 254, 255, 0))

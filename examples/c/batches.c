@@ -1,4 +1,4 @@
-/* Prints what batches tell of a stream on standard input, a row on a line: its routes, the numbers of its paths, its communities, its large communities:
+/* Prints what batches have of a stream on standard input, a row on a line: its routes, the numbers of its paths, its communities, its large communities:
  *
  *     batches [--as4] [--ip4] [--ip6] [--internal] ROOM < STREAM
  *

@@ -18,10 +18,10 @@
  *
  * What is not yet read of standard output is kept in memory, and no session waits for it; after 16 MB lines are dropped, and counted.
  *
- * At SIGINT and SIGTERM it prints a table of what it counted, stops each session, and ends with 0. With -m it tells the peers TEXT, as an
+ * At SIGINT and SIGTERM it prints a table of what it counted, stops each session, and ends with 0. With -m it sends the peers TEXT, as an
  * administrative shutdown (RFC 9003), of 255 octets of UTF-8 at most. It ends with 2 for a fault of the
  * command line, and with 1 where it can't listen or wait, a write fails, or memory is lacking. Where descriptors run out, the sessions that
- * are up go on, and it tells so: a peer without one is tried again after SECONDS, and so is a connection that can't be accepted. */
+ * are up continue, and it says so: a peer without one is tried again after SECONDS, and so is a connection that can't be accepted. */
 #ifndef _DEFAULT_SOURCE
 #define _DEFAULT_SOURCE
 #endif
@@ -70,7 +70,7 @@ struct peer {
     ristulva_context context; /* of the session that is up */
     enum connection connection;
     int fd;                            /* -1 where there is none */
-    short ready;                       /* what poll told of it */
+    short ready;                       /* what poll reported of it */
     int error;                         /* why the last try to connect failed, */
     int lack;                          /* and why it had no descriptor */
     long long due[TIMERS];             /* when each timer runs out, by now() */
@@ -214,7 +214,7 @@ static void drop(struct peer *peer)
     peer->in_len = peer->out_len = 0;
 }
 
-/* The session goes on seeking: the peer may come here meanwhile. */
+/* The session keeps seeking: the peer may connect here meanwhile. */
 static void try_failed(struct peer *peer, int error)
 {
     int *told = error == EMFILE || error == ENFILE ? &peer->lack : &peer->error;
@@ -249,7 +249,7 @@ static void send_waiting(struct peer *peer)
     ssize_t sent = peer->out_len == 0 ? 0 : send(peer->fd, peer->out, peer->out_len, MSG_NOSIGNAL);
     if (sent < 0 && is_ready_later(errno))
         return;
-    /* Where the connection is broken, the next recv tells it. */
+    /* Where the connection is broken, the next recv reports it. */
     peer->out_len = sent < 0 ? 0 : peer->out_len - (size_t)sent;
     if (sent > 0)
         memmove(peer->out, peer->out + sent, peer->out_len);
@@ -259,7 +259,7 @@ static void send_waiting(struct peer *peer)
 
 static void put(struct peer *peer, const uint8_t *message, size_t len)
 {
-    /* A peer that takes nothing for so long is given up: the next recv tells that the connection is lost. */
+    /* A peer that reads nothing for this long is given up: the next recv reports that the connection is lost. */
     if (len > sizeof peer->out - peer->out_len) {
         shutdown(peer->fd, SHUT_RDWR);
         return;
@@ -343,7 +343,7 @@ static void print_up(struct peer *peer)
     say(", agreed hold %u%s%s%s\n", hold, agreed->as4 ? " as4" : "", agreed->ip4 ? " ip4" : "", agreed->ip6 ? " ip6" : "");
 }
 
-/* Tells whether a session came up or ended, and has it started again. */
+/* Prints whether a session came up or ended, and has it started again. */
 static void settle(struct peer *peer, uint8_t before)
 {
     uint8_t state = state_of(peer);
@@ -497,7 +497,7 @@ static struct peer *peer_at(const char *host)
     return NULL;
 }
 
-/* Leaves the listener alone for a while, where a connection can't be accepted: poll would tell of it again at once. */
+/* Leaves the listener alone for a while, where a connection can't be accepted: poll would report it again at once. */
 static void rest_listener(int error)
 {
     if (error != accept_error)
@@ -623,7 +623,7 @@ static void take_flags(int argc, char **argv, const char **address, const char *
     }
 }
 
-/* Who waits for a peer has to listen. */
+/* A speaker that waits for a peer has to listen. */
 static void check_listening(void)
 {
     size_t i;
@@ -762,7 +762,7 @@ static void print_said(void)
         end(1, "standard output", strerror(errno));
 }
 
-/* Prints what is left, for a reader that goes on. */
+/* Prints what is left, for a reader that still reads. */
 static void print_rest(void)
 {
     struct pollfd out = {STDOUT_FILENO, POLLOUT, 0};

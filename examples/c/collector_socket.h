@@ -9,7 +9,7 @@
 #include <string.h>
 #include <sys/socket.h>
 
-/* Who is one hop away sends this, and nobody else can. */
+/* The TTL that a peer one hop away sends, and no other can. */
 #define NEAR 255
 
 static int set_number(int fd, int level, int option, int number)

@@ -55,7 +55,7 @@ static void print_host(struct sockaddr_storage address, socklen_t len, char host
         host[0] = '\0';
 }
 
-/* A NOTIFICATION that tells a peer of an administrative shutdown, with a text of 255 octets at most: 6/2, and after an octet of its length the text
+/* A NOTIFICATION of an administrative shutdown, with a text of 255 octets at most: 6/2, and after an octet of its length the text
  * (RFC 4486; RFC 9003, section 2). Answers its length. */
 static size_t shutdown_message(const char *text, uint8_t *out)
 {

@@ -1,4 +1,4 @@
-/* A guard of one session, to start from: it accepts an outer peer, connects to the inner speaker, and hands on what is clean:
+/* A guard of one session, to start from: it accepts an outer peer, connects to the inner speaker, and passes on what is clean:
  *
  *     guard PORT INNER_ADDRESS INNER_PORT [TYPE]..
  *
@@ -36,7 +36,7 @@ static struct side {
     enum phase phase;
     int fd, seconds; /* of a side that leaves, how many are left */
     ristulva_asks asks;
-    uint8_t in[16384]; /* what came and the guard hasn't taken */
+    uint8_t in[16384]; /* what came and the guard hasn't consumed */
     size_t in_len;
 } sides[] = {{.name = "outer", .number = RISTULVA_OUTER, .phase = GONE}, {.name = "inner", .number = RISTULVA_INNER, .phase = GONE}};
 

@@ -39,7 +39,7 @@ TOGETHER = 8
 
 
 def say(line: str) -> None:
-    """Tells something on standard error."""
+    """Prints a line on standard error."""
     print(f"archives: {line}", file=sys.stderr)
 
 
@@ -137,7 +137,7 @@ def write(whole: counting.Part, into: pathlib.Path) -> None:
 
 
 def tell(whole: counting.Part, files: int) -> None:
-    """Tells what was counted, what was left out, and which files are damaged."""
+    """Prints what was counted, what was left out, and which files are damaged."""
     say(", ".join([f"{files} files", *(f"{count} {verdict}" for verdict, count in sorted(whole.messages.items()))]))
     for why, count in sorted(whole.left_out.items()):
         say(f"left out: {count} {why}")

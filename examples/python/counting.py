@@ -1,4 +1,4 @@
-"""Counts by prefix what archives tell, so that parts of them can be counted apart and put together: `merged` of the parts, in their order, is what
+"""Counts by prefix what archives have, so that parts of them can be counted apart and put together: `merged` of the parts, in their order, is what
 counting all of it in one go gives."""
 
 from __future__ import annotations
@@ -18,7 +18,7 @@ Path = typing.Optional[tuple[tuple[int, tuple[int, ...]], ...]]
 
 @dataclasses.dataclass
 class Row:
-    """What a peer told of a prefix: how often it announced and withdrew it, how often its route changed, and the states at first and at last.
+    """What a peer sent of a prefix: how often it announced and withdrew it, how often its route changed, and the states at first and at last.
 
     What was there before the first isn't known, so that this is no change."""
 
@@ -40,7 +40,7 @@ class Row:
 
 
 class Part:
-    """What some archives tell: rows by peer and prefix, the AS numbers that a prefix came from, the peers whose sessions fell, how many messages there
+    """What some archives have: rows by peer and prefix, the AS numbers that a prefix came from, the peers whose sessions fell, how many messages there
     were by verdict and what was left out, and the faults of files."""
 
     def __init__(self) -> None:

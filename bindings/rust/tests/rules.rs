@@ -237,7 +237,7 @@ fn notification() {
         data: b"\x03bye",
     };
     assert_eq!(it.outcome(), &wanted);
-    // The data are borrowed from what was handed in.
+    // The data are borrowed from what was passed in.
     let Outcome::Notification { data, .. } = it.into_outcome() else {
         unreachable!()
     };
@@ -563,8 +563,8 @@ fn cleaned(octets: &[u8], types: &[u8]) -> Cleaned {
     message.clean(true, types).expect("memory")
 }
 
-/// What is handed on of octets is wanted, with these numbers of attributes that are discarded and
-/// left out, and of capabilities left out; wanted is handed on as it is.
+/// What is passed on of octets is wanted, with these numbers of attributes that are discarded and
+/// left out, and of capabilities left out; wanted is passed on unchanged.
 fn becomes(octets: &[u8], types: &[u8], wanted: &[u8], counts: [usize; 3]) {
     let handed_on = |[discarded, left_out, capabilities]: [usize; 3]| {
         Cleaned::HandedOn(HandedOn {
@@ -622,7 +622,7 @@ fn cleaned_of_types() {
     becomes(&end_of_rib, &[20], &end_of_rib, [0; 3]);
 }
 
-/// IPv4 unicast, route refresh, AS 131073 and IPv4 unicast: two go on, in one parameter.
+/// IPv4 unicast, route refresh, AS 131073 and IPv4 unicast: two are passed on, in one parameter.
 #[test]
 fn cleaned_opens() {
     let open = |capabilities: &[&[u8]]| {

@@ -505,7 +505,7 @@ fn refused() {
     assert_eq!(send(&ANNOUNCEMENT), None);
 }
 
-/// In all states but Established no body is looked at.
+/// In all states but Established no body is judged.
 #[test]
 fn state_first() {
     let (mut one, mut other) = connected(&local(), &remote());
