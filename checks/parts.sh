@@ -153,6 +153,8 @@ documents() {
     part_in_python "tests of attributes" docs/make-attributes --check
     part_in_python "programs that documents show" checks/documents/library
     part_in_python "links and paths of documents" checks/documents/links
+    part_in_python "words of the glossary" checks/documents/words
+    part_in_python "words that the glossary finds" checks/documents/words --self-test
     part_in_python "calls that can lack memory" checks/documents/memory
     part_in_python "chart" checks/bench/draw-chart --check
 }

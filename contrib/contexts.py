@@ -32,7 +32,7 @@ def capabilities_of(body):
 
 def said_in(messages):
     """What the first OPEN says: the AS number, whether it offers 4-octet AS numbers, its families, the Hold Time, and all its
-    capabilities. None where there is no OPEN."""
+    capabilities. None without an OPEN."""
     if not messages or messages[0].kind != streams.OPEN or len(messages[0].octets) < streams.LEAST[streams.OPEN]:
         return None
     message = messages[0].octets

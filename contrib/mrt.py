@@ -32,7 +32,7 @@ PLAIN_BLOCK, PACKED_BLOCK, UNPACKED_BLOCK = 1 << 18, 1 << 15, 1 << 14
 # A longer record counts as damage: that of a prefix with an entry for each of 65535 peers stays below it.
 LONGEST_RECORD = 1 << 24
 
-# So many sessions, and headers of messages, are remembered, so that a file in which each is another needs no more memory.
+# The most sessions, and headers of messages, that are remembered, so that a file in which each is another needs no more memory.
 MOST_KNOWN = 1 << 16
 
 # A record's header: the time, type and subtype as one number, and the length. The time is in what is kept of it and of what follows: the second, the
@@ -415,8 +415,8 @@ class Archive:
         return end if end <= len(block) else None
 
     def keep_known(self, block, at):
-        """Adds messages to those that are kept, as long as each has the form of the last one that was read, and all is known that precedes its
-        body: then nothing in it has to be read. Answers the offset of the first that isn't.
+        """Adds messages to those that are kept, as long as each has the form of the last one that was read, and all is known that comes before its
+        body: then nothing in it has to be read. Answers where the first begins of which that isn't so.
         """
         form, end = self.form, len(block)
         known, begin, has_no_micro = form.known.get, form.begin, form.begin == HEAD.size

@@ -20,7 +20,7 @@ LEAST = {OPEN: 29, UPDATE: 23, NOTIFICATION: 21, KEEPALIVE: 19, ROUTE_REFRESH: 2
 # After a message that ends a stream for the program, this many are tried at once, and then twice the number.
 FEW = 64
 
-# How many octets are held before they are written.
+# The octets that are held before they are written.
 HELD = 1 << 25
 
 

@@ -1,7 +1,7 @@
 "use strict";
 // The page: what is pasted, dropped or chosen becomes octets, and each message of these a card.
 
-// So many messages are shown at once.
+// The number of messages that are shown at once.
 const SHOWN = 50;
 // The greatest length of a fragment.
 const LINKED = 16384;

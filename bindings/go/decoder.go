@@ -85,7 +85,7 @@ func (decoder *Decoder) pull(piece []byte) (*Message, C.size_t) {
 	return message, taken
 }
 
-// Held is how many octets of an incomplete message the decoder holds.
+// Held is the number of octets of an incomplete message that the decoder holds.
 func (decoder *Decoder) Held() (int, error) {
 	decoder.lock.Lock()
 	defer decoder.lock.Unlock()

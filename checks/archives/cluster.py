@@ -6,7 +6,7 @@ import time
 
 SCHEDULER, WORKER = "distributed.cli.dask_scheduler", "distributed.cli.dask_worker"
 WATCHING = pathlib.Path(__file__).resolve().with_name("watching.py")
-# So many seconds are waited for what should come.
+# The seconds to wait for what should come.
 PATIENCE = 60
 
 

@@ -1,8 +1,8 @@
 #!/usr/bin/env python3
-"""Makes a folder of MRT archives of two collectors, always the same for the same arguments, and computes their content besides: from the events by
+"""Makes a folder of MRT archives of two collectors, always the same for the same arguments, and computes beside that what they have: from the events by
 which they are made, and never by reading them.
 
-    make.py FOLDER FILES UPDATES     for each collector FILES files of UPDATES updates
+    make.py FOLDER FILES UPDATES     for each collector this number of files, of this number of updates each
 
 Each collector has a table dump and then files of updates: plain, gzip and bzip2 in turn. Messages have faults now and then, sessions fall and come up
 again, and one peer has 2-octet AS numbers."""

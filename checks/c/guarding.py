@@ -52,7 +52,7 @@ class Guarded:
 
 
 def hear(side, count):
-    """So many octets that reach a side."""
+    """`count` octets that reach a side."""
     octets = b""
     while len(octets) < count:
         more = side.connection.recv(65536)

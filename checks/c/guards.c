@@ -25,7 +25,7 @@ static ristulva_guard guard;
 #define OUTER_OPEN "04 fde9 005a c0000201 10 020e 010400010001 41040000fde9 0200"
 #define CLEAN_OPEN "04 fde9 005a c0000201 0e 020c 010400010001 41040000fde9"
 #define INNER_OPEN "04 fdea 005a c0000202 0e 020c 010400010001 41040000fdea"
-/* 10.0.0.0/8 by AS 65000 and 192.0.2.1; the same with an ORIGIN of 3, which is treated as a withdrawal; with attribute 28 after it. */
+/* 10.0.0.0/8 by AS 65000 and 192.0.2.1; the same with an ORIGIN of 3, which is treated as a withdrawal; with attribute 28 after. */
 #define UPDATE "0000 0014 40010100 40020602010000fde8 400304c0000201 080a"
 #define BAD_ORIGIN "0000 0014 40010103 40020602010000fde8 400304c0000201 080a"
 #define WITHDRAWAL "0002 080a 0000"

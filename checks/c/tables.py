@@ -1,5 +1,5 @@
 #!/usr/bin/env python3
-"""tables.py PROGRAM FOLDER: whether `ristulva.table` reports of each stream in a folder what `PROGRAM show --json` prints of it.
+"""tables.py PROGRAM FOLDER: whether `ristulva.table` has of each stream in a folder what `PROGRAM show --json` prints of it.
 
 FOLDER/streams.json lists the streams: of each its name, the flags of its context, its file there, and whether it is tried many times over too. Routes,
 origin AS, spans of values, numbers of paths, communities and large communities have to be those of the objects, in their order, in whatever room they
@@ -18,7 +18,7 @@ from ristulva import tables
 
 AS_TRANS = 23456
 ROOMS = (0, 4073, 4074, 9000)
-# So many rows aren't read in the least room at one go.
+# More rows than are read in the least room at one go.
 MANY = 9000
 
 

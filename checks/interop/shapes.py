@@ -36,7 +36,7 @@ def body_of(withdrawn, attributes, nlri):
 
 
 def room_of(withdrawn=b"", attributes=b"", nlri=b""):
-    """How many octets are free below the most that a message has."""
+    """The octets that are free below the most that a message has."""
     return MOST - 19 - len(body_of(withdrawn, attributes, nlri))
 
 
@@ -105,7 +105,7 @@ class Draw:
         return attribute(0x40, 5, struct.pack(">I", 100)) if self.mode == INTERNAL else b""
 
     def sound(self, hop="192.0.2.2"):
-        """Attributes of a route that nobody has anything against."""
+        """Attributes of a valid route."""
         return self.origin() + self.usual_path() + (self.hop(hop) if hop else b"") + self.preference()
 
     def communities(self, count):
@@ -317,7 +317,7 @@ class Draw:
         yield "an IPv6 route of 4096 octets by communities", self.update(basis + self.communities(count) + self.reach6(self.one6(128)))
 
     def unknowns(self):
-        """Attributes of types that nobody knows, or that few do."""
+        """Attributes of types that are unassigned, or rare."""
         for flags in (0xC0, 0x80, 0xE0, 0xF0):
             for size in (0, 1, 255, 256, 3000):
                 kind = self.random.choice((19, 99, 130, 200, 254, 255, 0))
@@ -346,7 +346,7 @@ class Draw:
         yield "withdrawals of a VPN family", self.update(attribute(0x80, 15, b"\x00\x01\x80" + self.random.randbytes(20)))
 
     def prefixes(self):
-        """Prefixes that stand out."""
+        """Prefixes of unusual lengths and values."""
         same, other = self.one4(), self.one6()
         four = {
             "0.0.0.0/0": b"\x00", "0.0.0.0/1": b"\x01\x00", "0.0.0.0/8": b"\x08\x00", "0.0.0.0/32": b"\x20" + bytes(4), "127.0.0.0/8": b"\x08\x7f", "224.0.0.0/4": b"\x04\xe0",

@@ -1,6 +1,6 @@
 """BGP-4 messages: the outcome of their octets, and how they are written. A model, for comparison: no speed, no streams in pieces.
 
-Written from the rules that docs/made/ATTRIBUTES.md, docs/made/DEFINITIONS.md and docs/DECISIONS.md give, and not from the crates.
+Written from the rules that docs/made/ATTRIBUTES.md, docs/made/DEFINITIONS.md and docs/DECISIONS.md state, and not from the crates.
 """
 from dataclasses import dataclass
 

@@ -1,4 +1,4 @@
-"""Browsers without a window, which are remote-controlled: Chromium by the protocol of its tools, over a pipe; Firefox by Marionette, over TCP on loopback."""
+"""Browsers without a window, under control: Chromium by the protocol of its tools, over a pipe; Firefox by Marionette, over TCP on loopback."""
 import json
 import os
 import pathlib
@@ -24,7 +24,7 @@ def wait_for(browser):
 
 
 class Chromium:
-    """A Chromium without a window, which is remote-controlled over a pipe, by the protocol of its tools."""
+    """A Chromium without a window, controlled over a pipe by the protocol of its tools."""
 
     def __init__(self, program, folder):
         (ours, theirs), (answers, asks) = os.pipe(), os.pipe()

@@ -148,7 +148,7 @@ class Decoder:
 
     @property
     def held(self) -> int:
-        """How many octets of an incomplete message it holds. Where a stream ends, 0 means that it ends after a message."""
+        """The number of octets of an incomplete message that it holds. Where a stream ends, 0 means that it ends after a message."""
         held = c_size_t()
         with self._lock:
             self._take(b"")

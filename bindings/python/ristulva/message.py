@@ -157,7 +157,7 @@ class Message:
         return hash((self.octets, self.context, self.place))
 
     def __len__(self) -> int:
-        """How many octets it has: those of a header, where that has a fault."""
+        """Its length in octets: that of a header, where that has a fault."""
         return len(self.octets)
 
     def __reduce__(self) -> tuple[typing.Any, ...]:
@@ -353,7 +353,7 @@ def judge(octets: typing.Any, context: Context, place: int = 0) -> typing.Option
 def messages(octets: typing.Any, context: Context) -> typing.Iterator[Message]:
     """The messages of a stream, up to the first that ends the session. `octets` is a buffer, as for `judge`.
 
-    Where the stream ends inside a message, a warning `Incomplete` says how many octets of it there are."""
+    Where the stream ends inside a message, a warning `Incomplete` has the number of its octets."""
     octets, place = in_octets(octets), 0
     while (message := judged(part(octets, place), context, place)) is not None:
         yield message

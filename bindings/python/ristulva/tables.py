@@ -34,7 +34,7 @@ KINDS: dict[str, tuple[str, int, dict[str, tuple[typing.Any, int]]]] = {
         "message": ("u8", 0), "global": ("u4", 8), "local1": ("u4", 12), "local2": ("u4", 16),
     }),
 }
-# So many octets are looked through at a time for what may be IPv6 routes.
+# The number of octets that are searched at a time for what may be IPv6 routes.
 PIECE = 1 << 18
 
 
@@ -207,7 +207,7 @@ def table(octets: typing.Any, context: Context) -> Table:
     """The routes of a stream, and what is reported of them, up to the first message that resets the session. `octets` is bytes or any other buffer, as a
     mapped file; it isn't copied. It needs numpy.
 
-    Where the stream ends inside a message, a warning `Incomplete` says how many octets of it there are. Where a message resets the session, a warning
+    Where the stream ends inside a message, a warning `Incomplete` has the number of its octets. Where a message resets the session, a warning
     `Reset` says where, and `Table.reset` is that message. Where UPDATEs have attributes of IPv6 unicast, and the context no `ip6`,
     `FamilyNotAgreed` says so."""
     try:

@@ -73,7 +73,7 @@ impl Decoder {
         Some(Message::of(&self.context, octets, &verdict).at(offset))
     }
 
-    /// How many octets of an incomplete message it holds. Where a stream ends, 0 means that it
+    /// The octets of an incomplete message that it holds. Where a stream ends, 0 means that it
     /// ends after a message, or after a reset.
     pub fn held(&self) -> usize {
         self.decoder.held()

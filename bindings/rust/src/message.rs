@@ -8,7 +8,7 @@ pub(crate) const HEADER: usize = 19;
 /// The length of a NOTIFICATION before its data: the header, its code and its subcode.
 pub(crate) const NOTIFICATION: usize = 21;
 
-/// How many octets of text most messages have room in.
+/// The octets of text that most messages have room in.
 const LINES: usize = 4096;
 
 /// What a message means for its session (RFC 4271, section 6; RFC 7606).
@@ -169,7 +169,7 @@ fn outcome<'a>(context: &Context, octets: &'a [u8], verdict: &raw::Verdict) -> O
 }
 
 /// Judges the message that octets begin with, in the context of its session; `None` where they are
-/// less than a message, and [`front`](crate::front) reports how many octets are wanted.
+/// less than a message, and [`front`](crate::front) reports the number that is wanted.
 ///
 /// Octets after the message are ignored, and no outcome depends on other messages. Only a
 /// reset allocates, for its data.

@@ -1,7 +1,7 @@
 //! The calls of `ristulva.h`, and each as a safe function: the only file with `unsafe`.
 //!
 //! What makes them safe is the same everywhere. A slice's pointer isn't null, also where the slice
-//! is empty, and its length goes with it. What a call writes is behind a `&mut`, so it overlaps
+//! is empty, and its length goes with it. What a call writes is a `&mut`, so it overlaps
 //! nothing else. No call keeps a pointer, and for any octets, cursor and span it reads nothing
 //! outside of what it is given. The comments of the calls on a [`Decoder`] and on a [`Session`] say
 //! the rest.
@@ -540,7 +540,7 @@ impl Decoder {
         (taken, (status == OK).then_some(out))
     }
 
-    /// How many octets of an incomplete message it holds.
+    /// The number of octets of an incomplete message that it holds.
     pub fn held(&self) -> usize {
         let mut held = 0;
         // SAFETY: see above.

@@ -6,7 +6,7 @@ use std::collections::BTreeMap;
 use std::fs;
 use std::path::{Path, PathBuf};
 
-/// A capture, with its session and the text beside it.
+/// A capture, with its session and the text that is kept beside it.
 struct Capture {
     name: String,
     context: Context,

@@ -159,7 +159,7 @@ fn faults_of_headers() {
         assert_eq!(it.outcome(), &reset(code, subcode, data));
         assert_eq!(it.octets(), &[]);
         assert_eq!(it.body(), &[]);
-        // Octets after the header are ignored.
+        // Octets after the header have no effect.
         let more = [&octets[..], &message(4, &[])].concat();
         assert_eq!(judge(&PLAIN, &more), Some(it));
     }
@@ -197,7 +197,7 @@ fn opens() {
 }
 
 /// RFC 5492, section 4: capabilities in one parameter, and each in one of its own after an empty
-/// one. RFC 6793, section 4.1: 23456 replaces 131073.
+/// one. RFC 6793, section 4.1: 23456 stands for 131073.
 #[test]
 fn capabilities() {
     let caps = [
@@ -237,7 +237,7 @@ fn notification() {
         data: b"\x03bye",
     };
     assert_eq!(it.outcome(), &wanted);
-    // The data are borrowed from the octets given.
+    // The data are borrowed from what was passed in.
     let Outcome::Notification { data, .. } = it.into_outcome() else {
         unreachable!()
     };
@@ -283,7 +283,7 @@ fn parts_of_an_update() {
     let it = taken(&AS4, &octets);
     assert_eq!(told(it.withdrawn()), ["10.1.2.0/24"]);
     assert_eq!((it.withdrawn().len(), it.nlri().count()), (1, 2));
-    // Bits after the length have no meaning.
+    // Bits past the length have no meaning.
     assert_eq!(told(it.nlri()), ["10.0.0.0/8", "172.16.0.0/12"]);
     assert_eq!(
         told(it.prefixes()),
@@ -352,7 +352,7 @@ fn communities() {
     assert_eq!(it.large_communities().collect::<Vec<_>>(), [[65000, 1, 2]]);
 }
 
-/// RFC 8092, section 3: a large community that occurs again is skipped.
+/// RFC 8092, section 3: a repeated large community is skipped.
 #[test]
 fn large_communities_once() {
     let (one, two) = (
@@ -509,7 +509,7 @@ fn long_lines() {
     assert_eq!(lines.lines().count(), 2004);
 }
 
-/// ORIGIN after AS_PATH, its length in two octets, is written before it, in one.
+/// ORIGIN after AS_PATH, its length in two octets, is written before it in one.
 #[test]
 fn one_written_form() {
     let long = vec![0x50, 1, 0, 1, 0];
@@ -557,14 +557,14 @@ const ALL: Context = Context {
     ..AS4
 };
 
-/// The outcome of octets, the first of their stream.
+/// The cleaned form of octets, the first of their stream.
 fn cleaned(octets: &[u8], types: &[u8]) -> Cleaned {
     let message = judge(&ALL, octets).expect("a message");
     message.clean(true, types).expect("memory")
 }
 
-/// What is passed on of octets is wanted, without this many attributes that are discarded, this
-/// many that are left out, and this many capabilities; wanted is passed on unchanged.
+/// What is passed on of octets is wanted, with these numbers of attributes that are discarded and
+/// left out, and of capabilities left out; wanted is passed on unchanged.
 fn becomes(octets: &[u8], types: &[u8], wanted: &[u8], counts: [usize; 3]) {
     let handed_on = |[discarded, left_out, capabilities]: [usize; 3]| {
         Cleaned::HandedOn(HandedOn {

@@ -54,10 +54,10 @@ struct Side {
     held: Vec<u8>,
 }
 
-/// What a side received, in words, and what it did.
+/// What a side received, as text, and what it did.
 type Told = (String, Vec<Action<'static>>);
 
-/// The requested actions that are done: what is sent arrives at the peer, and updates are left out.
+/// Carries out actions: what is sent is passed to the peer. Updates are left out.
 fn done(actions: Actions<'_>, peer: &mut Side) -> Vec<Action<'static>> {
     actions
         .map(|action| match action {
@@ -89,7 +89,7 @@ impl Side {
         done(self.session.event(event), peer)
     }
 
-    /// Receives the first message that arrived, which isn't an accepted UPDATE.
+    /// Receives the first message that came, which isn't an UPDATE that is accepted.
     fn hears(&mut self, peer: &mut Side) -> Option<Told> {
         let heard = self.session.hear(&self.held)?;
         let told = match heard.outcome {
@@ -359,7 +359,7 @@ fn stopped() {
     }
 }
 
-/// Before it is up a connection is sought again when the Retry Timer has expired.
+/// Until it is up, a connection is sought again when the Retry Timer has run out.
 #[test]
 fn sought_again() {
     let (mut one, mut other) = (Side::new(&local()), Side::new(&remote()));
@@ -388,7 +388,7 @@ fn expired_and_failed() {
     assert_eq!(done, left(&[])[1..]);
 }
 
-/// Less than a message changes nothing, and what follows one is ignored.
+/// Less than a message changes nothing, and octets after one have no effect.
 #[test]
 fn pieces() {
     let (_, mut other) = established(&local(), &remote());
@@ -411,9 +411,8 @@ fn pieces() {
     ));
 }
 
-/// Whatever one octet is, a session that is up receives what `judge` finds; but an OPEN doesn't
-/// belong there (RFC 6608, section 4). It stays up exactly where no NOTIFICATION is received or
-/// sent.
+/// Whatever one octet is, a session that is up receives what `judge` finds; but an OPEN doesn't belong
+/// there (RFC 6608, section 4). It stays up exactly where no NOTIFICATION came or is sent.
 #[test]
 fn changed_octets() {
     for octets in [
@@ -433,7 +432,7 @@ fn changed_octets() {
     }
 }
 
-/// What a session in Established receives in octets, and what `judge` says of them.
+/// Compares what a session in Established receives with what `judge` finds.
 fn compare(octets: &[u8]) {
     let (_, mut other) = established(&local(), &remote());
     let context = other.session.context().expect("it stands");
@@ -506,7 +505,7 @@ fn refused() {
     assert_eq!(send(&ANNOUNCEMENT), None);
 }
 
-/// In all states but Established no body is read.
+/// In all states but Established no body is judged.
 #[test]
 fn state_first() {
     let (mut one, mut other) = connected(&local(), &remote());

@@ -135,7 +135,7 @@ impl<C: Connection + Drop, K: Clock + Drop, O: Observer + Drop> Host<C, K, O> {
         self.follow(link);
     }
 
-    // Lets the session pull from the front of a piece, and carries out the actions that it returns. Returns the number of octets taken, or None where
+    // Lets the session pull from the front of a piece, and carries out the actions that it returns. Returns the number of octets consumed, or None where
     // nothing is left to do.
     #[tactic(auto, using(crate::proofs::Turns::runs_same))]
     fn pull(

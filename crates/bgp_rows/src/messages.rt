@@ -92,7 +92,7 @@ fn by_octets(alloc: Global, ctx: &Context, stream: &[u8]) -> Result<Page, Troubl
     Ok(page)
 }
 
-/// The result of one call: the number of octets taken from the piece, and the length of the message, if there was one.
+/// The result of one call: the number of octets consumed of the piece, and the length of the message, if there was one.
 type Taken = (usize, Option<u16>);
 
 /// The result of one pull, tried again after a failed allocation.
@@ -150,7 +150,7 @@ fn put_fault(
     page.put_outcome(alloc, ctx, 0, &outcome)
 }
 
-/// Adds what `look` finds, as a view. Returns the number of octets taken, the length of the message, and how the decoder continues.
+/// Adds what `look` finds, as a view. Returns the number of octets consumed, the length of the message, and how the decoder continues.
 fn put_found(
     alloc: Global,
     ctx: &Context,

@@ -825,7 +825,7 @@ ristulva_status ristulva_decoder_free(ristulva_decoder *decoder);
 ristulva_status ristulva_decoder_pull(ristulva_decoder *decoder, const uint8_t *octets, size_t len, uint8_t *message, size_t message_room,
                                       uint8_t *data, size_t room, size_t *taken, ristulva_verdict *out);
 
-/* Reports how many octets of an incomplete message the decoder holds, at most RISTULVA_MESSAGE. Where a stream ends, 0 means that it ends after a
+/* Reports the length of the incomplete message that the decoder holds, at most RISTULVA_MESSAGE. Where a stream ends, 0 means that it ends after a
  * message, or after a RISTULVA_RESET. RISTULVA_NO_DECODER. */
 ristulva_status ristulva_decoder_held(ristulva_decoder *decoder, size_t *held);
 

@@ -56,7 +56,7 @@ pub extern "C" fn ristulva_decoder_free(alloc: Global, decoder: &mut DecoderHand
     }
 }
 
-/// Reports how many octets of an incomplete message a decoder holds.
+/// Reports the length of the incomplete message that a decoder holds.
 #[unsafe(no_mangle)]
 pub extern "C" fn ristulva_decoder_held(
     alloc: Global,
