@@ -56,7 +56,7 @@ module _ (old : Decoding) (octets : List ℕ) (n : ℕ) (before : Outs) (going :
   ends_by (Err f) faulty is more =
       gives_fault plain plain-are Outcome j (z.held ++ behind more) f (omega (arith, faulty.0, length-append z.held (behind more))) (head_of-append plain plain-are z.held (behind more) (omega (arith, faulty.0)) ∙ faulty.1)
 
-  -- or the stream goes on
+  -- or the stream continues
   goes_by : (what : Result Message HeadFault) → IsContent what z.held → is_reset (given_by z what).1 ≡ false
       → (more : List ℕ) (others : Outs) (e : End) → Gives j (behind more) others e → Gives j (z.held ++ behind more) (given_by z what ∷ others) e
   goes_by (Ok m) frame on more others e g = gives_more plain plain-are Outcome j m z.held (behind more) others e frame on g

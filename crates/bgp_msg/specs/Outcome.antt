@@ -18,7 +18,7 @@ use Rattle.bgp_msg.specs.declared.message.Message.TheVariants as message
 use Rattle.bgp_msg.specs.declared.outcome.Outcome.{Outcome}
 use Rattle.bgp_msg.specs.declared.outcome.Outcome.TheVariants as outcome
 
--- the answer to an OPEN's fault; only a failed allocation has none, which is no fault of a body
+-- the answer to an OPEN's fault; only a failed allocation has none, which isn't a fault of a body
 abbrev pub of_open_fault : Option Notification → Outcome
 of_open_fault (Some n) = outcome.Reset n
 of_open_fault None = outcome.Reset (open_error UNSPECIFIC [])
@@ -51,7 +51,7 @@ out_of ctx m = of_body ctx m.kind m.body
 abbrev pub of_fault : HeadFault → Outcome
 of_fault fault = outcome.Reset (head_notification fault)
 
--- the session ends; a NOTIFICATION that was received is accepted, and is no reset
+-- the session ends; a NOTIFICATION that was received is accepted, and isn't a reset
 abbrev pub is_reset : Outcome → Bool
 is_reset (outcome.Reset n) = true
 is_reset _ = false

@@ -64,7 +64,7 @@ impl OutcomeView<'_> {
     ghost use Rattle.bgp_msg.specs.Outcome.{is_reset};
     ghost use Rattle.bgp_msg.specs.OutcomeView.{outcome_value, has_lists};
 
-    /// Whether the session ends. A NOTIFICATION that was received is accepted, and is no reset.
+    /// Whether the session ends. A NOTIFICATION that was received is accepted, and isn't a reset.
     #[inline(always)]
     pub fn is_reset(&self) -> bool
         ensures { result ≡ is_reset (outcome_value self.now) }

@@ -67,7 +67,7 @@ refresh_body r = to_be_bytes w16 r.afi ++ (subtype_of r.mark ∷ r.safi ∷ r.re
 abbrev pub refresh_octets : Refresh → List ℕ
 refresh_octets r = refresh_header (19 + length (refresh_body r)) ++ refresh_body r
 
--- a message that a speaker writes: nothing follows the four octets, and a subtype that has a meaning is told by it
+-- a message that a speaker writes: nothing follows the four octets, and subtypes 0 to 2 are named by their meaning
 pub record IsCanonical (r : Refresh) : Type 0 where
   pub afi : r.afi < 2 ^ 16
   pub nothing : r.rest ≡ []
