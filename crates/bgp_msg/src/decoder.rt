@@ -124,7 +124,6 @@ impl Decoder {
     /// # Errors
     /// `AllocError` where an allocation failed: only for an OPEN or an UPDATE that doesn't end the session. Nothing is consumed then, and
     /// the call can be made again.
-    #[tactic(auto, using(crate::proofs::Pulls::pulls_as_fed))]
     pub fn pull(
         &mut self,
         alloc: Global,
