@@ -1,7 +1,7 @@
 -- Each fault of a header has a span.
 use Rattle.bgp_fields.proofs.Prelude.{◌≡◌, ℕ, zero, suc, ◌+◌, ◌<◌, ◌≤◌, ◌||◌, ◌&&◌, ◌==◌, nat_eq, nat_lt, Bool, true, false, cond, List, [], ◌∷◌, length}
 use Rattle.bgp_fields.proofs.Prelude.{take, replicate, Option, Some, None, Err, refl, sym, ap, subst, ◌∙◌, arith, true≢false, eqb-true, Kind, HeadFault}
-use Rattle.bgp_fields.proofs.Prelude.{has_marker, length_field, type_field, head_for, head_of, kind_of, is_length, first_other, header_place, HasPlace}
+use Rattle.bgp_fields.proofs.Prelude.{has_marker, length_field, type_field, head_for, head_of, head_of_in, kind_of, is_length, first_other, header_place, HasPlace}
 use Rattle.std.specs.Cmp.Lexicographic.{pointwise}
 
 step-by : (k at x : ℕ) (b : List ℕ) (t : Bool) → (x == 255) ≡ t → (nat_eq 255 x && pointwise nat_eq (replicate k 255) (take k b)) ≡ false

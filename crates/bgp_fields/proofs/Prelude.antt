@@ -14,8 +14,8 @@ pub use Rattle.bgp_wire.proofs.Pieces.{Splits-pieces, pieces-none, pieces-some}
 pub use Rattle.bgp_wire.proofs.Walks.{all_rest, nothing_at, same_rest, shorter}
 pub use Rattle.bgp_prefix.specs.Prelude.{IsPrefix, PrefixValue, octets_for, one_prefix, run_of}
 pub use Rattle.bgp_prefix.proofs.PrefixLemmas.{IsPrefix-reads}
-pub use Rattle.bgp_frame.specs.Prelude.{IsFrame, IsLength, Waits, code_of, has_marker, head_for, header, is_length, kind_of, length_field, marker, message_in, type_field, wanted}
-unfoldable pub use Rattle.bgp_frame.specs.Prelude.{head_of}
+pub use Rattle.bgp_frame.specs.Prelude.{IsFrame, IsLength, Waits, code_of, has_marker, head_for, head_of, header, is_length, kind_of, length_field, marker, message_in, type_field, wanted}
+unfoldable pub use Rattle.bgp_frame.specs.Prelude.{head_of_in}
 pub use Rattle.bgp_frame.specs.declared.fault.HeadFault.{HeadFault}
 pub use Rattle.bgp_frame.specs.declared.kind.Kind.{Kind}
 pub use Rattle.bgp_frame.specs.declared.notification.Notification.{Notification}

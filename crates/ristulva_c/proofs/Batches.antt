@@ -1,5 +1,5 @@
 -- Messages of a batch, in sequence.
-use Rattle.ristulva_c.proofs.Below.{◌≡◌, ℕ, ◌+◌, ◌-◌, ◌<◌, ◌≤◌, Bool, cond, eqb, List, [], ◌∷◌, ◌++◌, length, drop, refl, sym, ap, subst, ◌∙◌, arith, eq-eqb, ne_eqb, append-nil, append_assoc, length-drop, Waits, wanted, Context}
+use Rattle.ristulva_c.proofs.Below.{◌≡◌, ℕ, ◌+◌, ◌-◌, ◌<◌, ◌≤◌, Bool, cond, eqb, List, [], ◌∷◌, ◌++◌, length, drop, refl, sym, ap, subst, ◌∙◌, arith, eq-eqb, ne_eqb, append-nil, append_assoc, length-drop, Waits, wanted_in, Context}
 use Rattle.bgp_frame.specs.declared.step.Step.TheVariants as step
 use Rattle.ristulva_c.specs.Batch.{Giving, Taken, IsTaken, Stand, octets_taken, rows_taken, EndsAt, TakesAll}
 use Rattle.ristulva_c.specs.declared.status.TheConstants.{INCOMPLETE, OK}

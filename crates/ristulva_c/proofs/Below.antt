@@ -17,8 +17,8 @@ pub use Rattle.bgp_numbers.specs.declared.safi.TheConstants.{UNICAST}
 pub use Rattle.bgp_prefix.specs.Prelude.{IsPrefix, PrefixValue, one_prefix, run_of}
 pub use Rattle.bgp_prefix.specs.declared.as_number.AsNumber.{AsNumber}
 pub use Rattle.bgp_prefix.proofs.PrefixLemmas.{IsPrefix-reads}
-pub use Rattle.bgp_frame.specs.Prelude.{IsContent, IsFrame, Message, ShowsFront, ShowsStep, Stops, Takes, Waits, code_of, head_of, header, least_length, length_field, message_in, notification_of_view, wanted_by}
-unfoldable pub use Rattle.bgp_frame.specs.Prelude.{wanted}
+pub use Rattle.bgp_frame.specs.Prelude.{IsContent, IsFrame, Message, ShowsFront, ShowsStep, Stops, Takes, Waits, code_of, head_of, header, least_length, length_field, message_in, notification_of_view, wanted, wanted_by}
+unfoldable pub use Rattle.bgp_frame.specs.Prelude.{wanted_in}
 pub use Rattle.bgp_frame.specs.declared.fault.HeadFault.{HeadFault}
 pub use Rattle.bgp_frame.specs.declared.kind.Kind.{Kind}
 pub use Rattle.bgp_frame.specs.declared.notification.Notification.{Notification}

@@ -1,5 +1,6 @@
 -- The number of octets wanted.
-use Rattle.ristulva_c.proofs.Below.{◌≡◌, ℕ, ◌≤◌, List, length, Ok, Err, refl, sym, ap, ◌∙◌, arith, length_field, head_of, wanted_by, wanted, Waits, wanted_by_head}
+use Rattle.ristulva_c.proofs.Below.{◌≡◌, ℕ, ◌<◌, ◌≤◌, List, length, Ok, Err, refl, sym, ap, ◌∙◌, arith, length_field, head_of, wanted_by, wanted, Waits, wanted_by_head}
+use Rattle.bgp_frame.proofs.FrameLemmas.{wanted_under}
 use Rattle.bgp_frame.proofs.HeadLemmas.{Says-head_of}
 use Rattle.bgp_frame.specs.Kind.{plain}
 use Rattle.bgp_frame.specs.steps.AreTypes.{plain-are}
@@ -11,3 +12,7 @@ by_head b (Err f) e long waits = let is : wanted b ≡ 19 = wanted_by_head plain
 -- with a whole header, and less than its message: what its Length says
 pub wanted_is_length : (b : List ℕ) → 19 ≤ length b → Waits b → wanted b ≡ length_field b
 wanted_is_length b long waits = by_head b (head_of b) refl long waits
+
+-- without one: a header
+pub wanted_is_header : (b : List ℕ) → length b < 19 → wanted b ≡ 19
+wanted_is_header = wanted_under plain plain-are

@@ -57,7 +57,7 @@ fn fault_told(fault: HeadFault) -> ToldFront
 }
 
 /// The length of the first message, or of its header where that is incomplete.
-#[tactic(auto, using(crate::proofs::Wanted::wanted_is_length, bgp_frame::proofs::FrameLemmas::wanted_under))]
+#[tactic(auto, using(crate::proofs::Wanted::wanted_is_length, crate::proofs::Wanted::wanted_is_header))]
 fn wanted(octets: &[u8]) -> u32
     requires { Waits octets.now }
     ensures { result ≡ wanted octets.now }
