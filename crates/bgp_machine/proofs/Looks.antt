@@ -6,7 +6,7 @@ use Rattle.bgp_machine.proofs.Prelude.{step_of, Finds, Standing, listens, Step, 
 use Rattle.bgp_machine.proofs.Prelude.{FrontTakesMemory, Looked}
 use Rattle.arrayvec.specs.ArrayVec.{ArrayVec}
 use Rattle.bgp_frame.specs.Step.{Frame}
-use Rattle.bgp_frame.specs.Pull.{Pull}
+use Rattle.bgp_frame.specs.declared.pull.Pull.TheVariants as pull
 use Rattle.bgp_frame.proofs.Pulls.{held_or_front}
 use Rattle.bgp_frame.proofs.Hearings as hearings
 use Rattle.bgp_machine.proofs.Cuttings.{is_hearer, pulls_as_fed}
@@ -44,7 +44,7 @@ module _ (s : Settings) (x : Standing) (held piece : List ℕ) (n : ℕ) (h : He
         | inr p ↦ inr (record { none_held = p.0; n = n; within = is.takes.within; takes = p.1 })
       ]
 
-  pub finds_message : (frame : Frame) → IsPull held piece (Pull.Frame n frame) → Hears s x (record { kind = frame.kind; body = frame.body.now }) h → Finds me piece looked
+  pub finds_message : (frame : Frame) → IsPull held piece (pull.Frame n frame) → Hears s x (record { kind = frame.kind; body = frame.body.now }) h → Finds me piece looked
   finds_message frame found is =
       let m : Message = record { kind = frame.kind; body = frame.body.now } in
       let content = content_of-frame plain plain-are m octets found.1.0 in
@@ -56,7 +56,7 @@ module _ (s : Settings) (x : Standing) (held piece : List ℕ) (n : ℕ) (h : He
         said = λ other says. subst (λ (y : Message). IsSaid s x y h) (same_content m other (content_of octets) content says) is.said;
       }
 
-  pub finds_fault : (f : HeadFault) → IsPull held piece (Pull.Fault n f) → HearsFault x f h → Finds me piece looked
+  pub finds_fault : (f : HeadFault) → IsPull held piece (pull.Fault n f) → HearsFault x f h → Finds me piece looked
   finds_fault f found is =
       let content = content_of-fault plain plain-are octets f found.1.0 found.1.1 in
       record {
