@@ -15,10 +15,10 @@ waits_part s waits = lt-ltb (length s) (wanted s) waits
 
 module _ (m : Message) (frame : List ℕ) (f : IsFrame m frame) (later : List ℕ) where
   long : 19 ≤ length frame
-  long = let n = length-IsFrame m frame f in omega arith
+  long = let n = length-IsFrame plain plain-are m frame f in omega arith
 
   wants : wanted (frame ++ later) ≡ length frame
-  wants = wanted-append frame later long ∙ IsFrame-wanted m frame f
+  wants = wanted-append plain plain-are frame later long ∙ IsFrame-wanted plain plain-are m frame f
 
   pub frame_whole : is_part (frame ++ later) ≡ false
   frame_whole = let w = wants in let l = length-append frame later in le-ltb (length (frame ++ later)) (wanted (frame ++ later)) (omega arith)
@@ -34,7 +34,7 @@ module _ (m : Message) (frame : List ℕ) (f : IsFrame m frame) (later : List �
 
   pub frame_first : first_message (frame ++ later) ≡ Some m
   frame_first =
-      rw (frame_whole, head_of-append frame later long ∙ head_of-IsFrame m frame f)
+      rw (frame_whole, head_of-append plain plain-are frame later long ∙ head_of-IsFrame plain plain-are m frame f)
       (ap (λ (b : List ℕ). let o : Option Message = Some (record { kind = m.kind; body = b }) in o) (ap (drop 19) front_is ∙ body_is))
 
   pub frame_open : first_open (frame ++ later) ≡ open_in m.kind m.body
@@ -44,7 +44,7 @@ module _ (m : Message) (frame : List ℕ) (f : IsFrame m frame) (later : List �
 
 module _ (s : List ℕ) (f : HeadFault) (long : 19 ≤ length s) (faulty : head_of s ≡ Err f) where
   pub fault_whole : is_part s ≡ false
-  fault_whole = let w = wanted_by_head s long ∙ ap wanted_by faulty in le-ltb (length s) (wanted s) (omega arith)
+  fault_whole = let w = wanted_by_head plain plain-are s long ∙ ap wanted_by faulty in le-ltb (length s) (wanted s) (omega arith)
 
   pub fault_first : first_message s ≡ None
   fault_first = rw (fault_whole, faulty) refl

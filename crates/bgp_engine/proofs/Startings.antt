@@ -20,7 +20,7 @@ use Rattle.bgp_engine.specs.steps.Starting as steps
 use Rattle.bgp_engine.proofs.FirstOpens.{waits_part, frame_first, frame_whole, fault_whole, fault_first}
 use Rattle.bgp_engine.proofs.Reading.{goes_further}
 use Rattle.bgp_engine.proofs.Walks.{counts_on, heard, heard_report, reports_report}
-use Rattle.bgp_frame.specs.Kind.{plain}
+use Rattle.bgp_frame.specs.Kind.{plain as plain_types}
 use Rattle.bgp_frame.specs.steps.AreTypes.{plain-are}
 
 -- ---- octets are consumed after others
@@ -44,7 +44,7 @@ pub all_fed : (held octets : List ℕ) (n : ℕ) → frame.Takes held octets n �
 all_fed held octets n t waits =
     elim t.all_or_stops [
       | inl all ↦ take_all n octets (omega (arith, all))
-      | inr stops ↦ let w = Stops-wanted plain plain-are (held ++ take n octets) stops in absurd (omega (arith, w.1))
+      | inr stops ↦ let w = Stops-wanted plain_types plain-are (held ++ take n octets) stops in absurd (omega (arith, w.1))
     ]
 
 fed_whole : (held octets : List ℕ) (n : ℕ) (later : List ℕ) → (held ++ take n octets) ++ (drop n octets ++ later) ≡ held ++ (octets ++ later)
@@ -144,14 +144,14 @@ module _ {Outcome : Type 0} (starts : Starts Outcome) where
       settles_plain told1 b = record {
         lines = [];
         told = b.1 ∙ sym (append-nil told);
-        settles = (unended, counts_held, λ later r octets q. plain held m f later rules1 r b.0 (from_front (let long = Stops-wanted plain plain-are held (inl (m, f)) in omega (arith, long.1)) later r octets q));
+        settles = (unended, counts_held, λ later r octets q. plain held m f later rules1 r b.0 (from_front (let long = Stops-wanted plain_types plain-are held (inl (m, f)) in omega (arith, long.1)) later r octets q));
       }
 
       from_behind : (later : List ℕ) (r : Report) → AreOctets later → reports_of (handed_walk (length held)) later r → IsReport rules1 (length held) (counted no_tally (length held) Class.Took) later r
       from_behind later r octets q =
           subst (λ (n : ℕ). IsReport rules1 n (counted no_tally (length held) Class.Took) later r) (let same : 0 + length held ≡ length held = omega arith in same)
           (subst (λ (w : Walking Outcome). IsReport rules1 (w.place + length held) (counted w.tally (length held) Class.Took) later r) fresh
-          (reports_report (handed_walk (length held)) later r refl IsHeld_nil plain plain-are octets q))
+          (reports_report (handed_walk (length held)) later r refl (IsHeld_nil plain_types plain-are) octets q))
 
       pub settles_handed : (told1 : List ℕ) (len : ℕ) → len ≡ length held → ((text : List ℕ) × (starts (Some m) ≡ Ok (record { rules = rules1; first = Some text })) × (told1 ≡ told ++ text))
           → Settles Stage.Agreed starts held told told1 (handed_walk len)
@@ -162,7 +162,7 @@ module _ {Outcome : Type 0} (starts : Starts Outcome) where
             told = b.2;
             settles = (
               refl,
-              counts_on (walking rules held place tally ended) c rules1 (length held) Class.Took (omega (arith, length-IsFrame m held f)) (omega arith),
+              counts_on (walking rules held place tally ended) c rules1 (length held) Class.Took (omega (arith, length-IsFrame plain_types plain-are m held f)) (omega arith),
               λ later r octets q. handed held m f later rules1 b.0 r b.1 (from_behind later r octets q),
             );
           })
@@ -170,17 +170,17 @@ module _ {Outcome : Type 0} (starts : Starts Outcome) where
     module _ (told told1 : List ℕ) (h : HeadFault) (size : length held ≡ 19) (faulty : head_of held ≡ Err h) (same : told1 ≡ told) where
       none_read : (later : List ℕ) → first_message (held ++ later) ≡ None
       none_read later =
-          fault_first (held ++ later) h (omega (arith, size, length-append held later)) (head_of-append held later (omega (arith, size)) ∙ faulty)
+          fault_first (held ++ later) h (omega (arith, size, length-append held later)) (head_of-append plain_types plain-are held later (omega (arith, size)) ∙ faulty)
 
       no_part : (later : List ℕ) → is_part (held ++ later) ≡ false
       no_part later =
-          fault_whole (held ++ later) h (omega (arith, size, length-append held later)) (head_of-append held later (omega (arith, size)) ∙ faulty)
+          fault_whole (held ++ later) h (omega (arith, size, length-append held later)) (head_of-append plain_types plain-are held later (omega (arith, size)) ∙ faulty)
 
       pub settles_fault : starts None ≡ Ok (record { rules = rules1; first = None }) → Settles Stage.Agreed starts held told told1 held_walk
       settles_fault b = record {
         lines = [];
         told = same ∙ sym (append-nil told);
-        settles = (unended, counts_held, λ later r octets q. without (held ++ later) (none_read later) rules1 r b (from_front (let long = Stops-wanted plain plain-are held (inr (size, (h, faulty))) in omega (arith, long.1)) later r octets q));
+        settles = (unended, counts_held, λ later r octets q. without (held ++ later) (none_read later) rules1 r b (from_front (let long = Stops-wanted plain_types plain-are held (inr (size, (h, faulty))) in omega (arith, long.1)) later r octets q));
       }
 
       pub settles_fault_unagreed : (why : NoContext) → starts None ≡ Err why → Settles (Stage.Unagreed why) starts held told told1 held_walk
@@ -196,7 +196,7 @@ module _ {Outcome : Type 0} (starts : Starts Outcome) where
   rests_by held waits (Err why) e = (unagreed why (End.Wait (length held)), rw (part_first held waits, e, waits_part held waits) refl, refl, tt)
   rests_by held waits (Ok x) e = (
     report_of x.rules 0 no_tally held [] (End.Wait (length held)),
-    rw (part_first held waits, e) (record { outcomes = []; end_of = End.Wait (length held); gives = gives_wait plain plain-are Outcome x.rules.judge held waits; told = refl }),
+    rw (part_first held waits, e) (record { outcomes = []; end_of = End.Wait (length held); gives = gives_wait plain_types plain-are Outcome x.rules.judge held waits; told = refl }),
     refl,
     tt,
   )

@@ -43,7 +43,7 @@ module _ {Outcome : Type 0} (rules : Rules Outcome) where
   held_first place tally held later can =
       hearings.in_parts walker is_hearer (front place tally) held later
       ∙ ap (λ (d : Done (Walking Outcome) ℕ). hearing.behind d.actions (by_octets walker d.session later))
-      (hearings.front_by_octets walker is_hearer (front place tally) refl held nothing_waits plain plain-are can)
+      (hearings.front_by_octets walker is_hearer (front place tally) refl held (nothing_waits plain plain-are) can)
 
   reported_behind : (lines : List ℕ) (d : Done (Walking Outcome) ℕ) → reported (hearing.behind lines d) ≡ behind lines (reported d)
   reported_behind lines d = rw (append_assoc lines d.actions []) refl
@@ -62,7 +62,7 @@ module _ {Outcome : Type 0} (rules : Rules Outcome) where
     its_octets : (w : Result Message HeadFault) → IsContent w held → octets_at (outcome rules w).0 (held ++ later) ≡ held
     its_octets (Ok m) f =
         let size : length held ≡ length (octets_of m) = ap length f.octets in
-        octets_at-some (length (octets_of m)) (held ++ later) (omega (arith, size, length-IsFrame m held f))
+        octets_at-some (length (octets_of m)) (held ++ later) (omega (arith, size, length-IsFrame plain plain-are m held f))
         ∙ ap (λ (n : ℕ). take n (held ++ later)) (sym size) ∙ take-append_seam held later
     its_octets (Err f) faulty = ap (λ (n : ℕ). take n (held ++ later)) (sym faulty.0) ∙ take-append_seam held later
 
@@ -85,7 +85,7 @@ module _ {Outcome : Type 0} (rules : Rules Outcome) where
 
     -- after the end of a stream nothing is received
     none_heard : (e : End) → by_octets walker (next (Some e)) later ≡ record { actions = []; session = next (Some e) }
-    none_heard e = hearings.drops_all walker is_hearer (next (Some e)) refl nothing_waits plain plain-are later
+    none_heard e = hearings.drops_all walker is_hearer (next (Some e)) refl (nothing_waits plain plain-are) later
 
   module _ (n : ℕ) (shorter : (s : List ℕ) (place : ℕ) (tally : Tally) → length s < n → AreOctets s → HasReport place tally s) (place : ℕ) (tally : Tally) (held later : List ℕ) (can : IsHeld held) where
     report_message : (m : Message) (f : IsFrame m held) → length later < n → AreOctets later → (resets : Bool) → rules.judge.resets (rules.judge.of_message m) ≡ resets → HasReport place tally (held ++ later)
@@ -107,7 +107,7 @@ module _ {Outcome : Type 0} (rules : Rules Outcome) where
         let f : HeadFault = faulty.1.0 in
         let long : 19 ≤ length (held ++ later) = omega (arith, faulty.0, length-append held later) in
         report_content place tally held later can (Err f) (faulty.0, faulty.1.1) [] End.Head
-        (gives_fault plain plain-are Outcome rules.judge (held ++ later) f long (head_of-append held later (omega (arith, faulty.0)) ∙ faulty.1.1))
+        (gives_fault plain plain-are Outcome rules.judge (held ++ later) f long (head_of-append plain plain-are held later (omega (arith, faulty.0)) ∙ faulty.1.1))
         (ap reported (none_heard place tally held later can (Err f) (faulty.0, faulty.1.1) End.Head))
 
   reports_within : (n : ℕ) (s : List ℕ) (place : ℕ) (tally : Tally) → length s < n → AreOctets s → HasReport place tally s
@@ -116,13 +116,13 @@ module _ {Outcome : Type 0} (rules : Rules Outcome) where
       elim (cases_lt (length s) (wanted s)) [
         | inl waits ↦
             let can : IsHeld s = record { octets = octets; within = omega (arith, waits) } in
-            let none = hearings.front_by_octets walker is_hearer (front place tally) refl s nothing_waits plain plain-are can ∙ hearings.rests walker is_hearer (walking rules s place tally None) waits in
+            let none = hearings.front_by_octets walker is_hearer (front place tally) refl s (nothing_waits plain plain-are) can ∙ hearings.rests walker is_hearer (walking rules s place tally None) waits in
             record { outcomes = []; end_of = End.Wait (length s); gives = gives_wait plain plain-are Outcome rules.judge s waits; told = ap reported none }
         | inr long ↦
             let held : List ℕ = take (wanted s) s in
-            let bounds = wanted-bounds s in
+            let bounds = wanted-bounds plain plain-are s in
             let size : length held ≡ wanted s = omega (arith, length-take (wanted s) s) in
-            let wants : wanted held ≡ wanted s = sym (wanted-append held (drop (wanted s) s) (omega (arith, bounds.0))) ∙ ap wanted (take-append-drop (wanted s) s) in
+            let wants : wanted held ≡ wanted s = sym (wanted-append plain plain-are held (drop (wanted s) s) (omega (arith, bounds.0))) ∙ ap wanted (take-append-drop (wanted s) s) in
             let octets_held : AreOctets held = AreOctets-take (wanted s) s octets in
             subst (HasReport place tally) (take-append-drop (wanted s) s)
             (report_front n (reports_within n) place tally held (drop (wanted s) s) (record { octets = octets_held; within = omega arith })
@@ -229,7 +229,7 @@ module _ {Outcome : Type 0} where
     stands_judged : (what : Result Message HeadFault) → IsContent what w.held → Stands w (comes w what).1
     stands_judged (Ok m) f =
         let size = ap length f.octets in
-        stands_by (length (octets_of m)) _ (omega (arith, size, length-IsFrame m w.held f)) (omega (arith, size)) (w.rules.judge.resets (w.rules.judge.of_message m))
+        stands_by (length (octets_of m)) _ (omega (arith, size, length-IsFrame plain plain-are m w.held f)) (omega (arith, size)) (w.rules.judge.resets (w.rules.judge.of_message m))
     stands_judged (Err f) faulty =
         (omega (arith, passed-bound (w.rules.judge.resets (w.rules.judge.of_fault f)) 0), record { waits = nothing_waits plain plain-are; counting = λ none. absurd cc; over = λ ended. tt })
 

@@ -20,7 +20,7 @@ use Rattle.ristulva_c.proofs.KeptPlaces.{slot_first, row_value, taken_of}
 use Rattle.ristulva_c.proofs.Outcomes.{by_kind}
 use Rattle.ristulva_c.proofs.PartPlaces.{lie}
 use Rattle.ristulva_c.proofs.RouteSpans.{behind_in}
-use Rattle.bgp_frame.specs.Kind.{plain}
+use Rattle.bgp_frame.specs.Kind.{plain as plain_types}
 use Rattle.bgp_frame.specs.steps.AreTypes.{plain-are}
 
 is_one : (b : Bool) → is_set (flag_of b) ≡ b
@@ -377,7 +377,7 @@ room_in octets n m are frame p is =
       ap length (parts-body m.body p octets_are is).octets ∙ length-body p.withdrawn p.attributes p.nlri,
       ap length frame.octets,
       length-append (header m.kind (19 + length m.body)) m.body,
-      length-header plain plain-are m.kind (19 + length m.body),
+      length-header plain_types plain-are m.kind (19 + length m.body),
       length-take n octets,
     )
 
