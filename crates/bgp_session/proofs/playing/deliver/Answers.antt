@@ -4,8 +4,6 @@ use Rattle.std.specs.Vec.{vec_len}
 use Rattle.bgp_session.proofs.Plays.{some_left, none_left}
 use Rattle.bgp_session.proofs.playing.deliver.Goals as goal
 use Rattle.bgp_session.proofs.playing.deliver.Goals.{then-pieces-test+else-not-has_left, else-pieces-test}
-use Rattle.bgp_frame.specs.Kind.{plain}
-use Rattle.bgp_frame.specs.steps.AreTypes.{plain-are}
 
 pub pieces-init : goal.pieces-init
 pieces-init g c = (
@@ -44,5 +42,5 @@ pieces-smaller g c =
 pub returns-clause-plays : goal.returns-clause-plays
 returns-clause-plays g c = elim c.pieces-test.branch [
   | then-pieces-test+else-not-has_left w ↦ ends_left _ _ _ _ _ c.pieces.invariant.1 (sym w.has_left.ensures ∙ w.if-not-has_left.false)
-  | else-pieces-test w ↦ ends_empty _ _ _ _ _ c.pieces.invariant.1 (none_left plain plain-are c.is_empty.result (vec_len c.pieces.octets) c.pieces.octets.items c.is_empty.ensures w.pieces-test.false c.pieces.octets.ok.0)
+  | else-pieces-test w ↦ ends_empty _ _ _ _ _ c.pieces.invariant.1 (none_left c.is_empty.result (vec_len c.pieces.octets) c.pieces.octets.items c.is_empty.ensures w.pieces-test.false c.pieces.octets.ok.0)
 ]
