@@ -19,12 +19,12 @@ look_at_time() {
     busy="$(awk 'NR == 2 { split($1 " " $2, it, /[ms ]+/); printf "%d", it[1] * 60 + it[2] + it[3] * 60 + it[4] }' "$log")"
 }
 
-# A row of the table of what each part took.
+# A row of the table of each part's cost.
 note_time() { # its name, seconds, seconds of processor time
     awk -v name="$1" -v wall="$2" -v busy="$3" 'BEGIN { printf "| %s | %.1f | %.1f |\n", name, wall / 60, busy / 60 }' >>"$table"
 }
 
-# Keeps what a part said that failed, for the end: the log is long.
+# Keeps the output of a failed part, for the end: the log is long.
 note_failure() { # its name
     {
         echo "-- $1"
@@ -64,7 +64,7 @@ fetch() { # flags, the package
     DEBIAN_FRONTEND=noninteractive apt-get install -y "$@" >&2
 }
 
-# Whether a command is there, or its package could be installed.
+# Whether a command is present, or its package could be installed.
 have() { # the command, its package
     command -v "$1" >/dev/null && return
     fetch "$2"
@@ -77,7 +77,7 @@ have_module() { # the module, its package
     fetch --no-install-recommends "$2"
 }
 
-# A part that Python has to be there for.
+# A part that needs Python.
 part_in_python() { # its name, its command
     if have python3 python3; then
         part "$@"
@@ -105,7 +105,7 @@ finish() {
     exit
 }
 
-# Adds up the lines that count, in one behind the others.
+# Adds up the lines that count, in one after the others.
 added() {
     awk '/^[0-9]+ passed, [0-9]+ failed$/ { passed += $1; failed += $3; next } { print } END { print passed + 0 " passed, " failed + 0 " failed" }'
 }
@@ -115,8 +115,8 @@ some_rows() { # the file
     awk 'BEGIN { RS = ""; ORS = "\n\n"; FS = "\n" } /^row / { split($2, kind, " "); if (seen[kind[1]]++ % 4) next } { print }' "$1"
 }
 
-# The rows, file by file, as many at once as there are processors, what takes longest first: all but the one that is wrong on purpose, which `rt ci` sees
-# told. With run-time checks each takes a hundred times as long: there are fewer of a kind then, and no change of each octet of a message.
+# The rows, file by file, as many at once as there are processors, the longest first: all but the one that is wrong on purpose, which `rt ci` sees
+# reported. With run-time checks each takes a hundred times as long: there are fewer of a kind then, and no change of each octet of a message.
 rows() { # the program, a flag for one that is not proved
     local folder=crates/bgp_check_rows/data left_out=wrong.rows file
     if [ "$2" = --unproved ]; then
@@ -153,6 +153,8 @@ documents() {
     part_in_python "tests of attributes" docs/make-attributes --check
     part_in_python "programs that documents show" checks/documents/library
     part_in_python "links and paths of documents" checks/documents/links
+    part_in_python "words of the glossary" checks/documents/words
+    part_in_python "words that the glossary finds" checks/documents/words --self-test
     part_in_python "calls that can lack memory" checks/documents/memory
     part_in_python "chart" checks/bench/draw-chart --check
 }

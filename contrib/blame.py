@@ -1,4 +1,4 @@
-"""For which message a NOTIFICATION was sent: by its data, by what `bgp` says against a message, or by its place."""
+"""For which message a NOTIFICATION was sent: by its data, by what `bgp` says against a message, or by its position."""
 import collections
 import struct
 
@@ -7,11 +7,11 @@ import streams
 
 HEADER, OPEN, UPDATE, STATES, CEASE, REFRESH = 1, 2, 3, 5, 6, 7
 NEXT_HOP = 3
-# What was found: the message's index (none: no one is blamed), why it, where the octets that the data are begin in it and how many they are, and the indices
-# of others that it may be for.
+# What was found: the message's index (none: no message is blamed), why it, the offset and the number of the octets in it that the data repeat, and the
+# indices of others that it may be for.
 Blame = collections.namedtuple("Blame", "index why at size others")
 KINDS = {1: "OPEN", 2: "UPDATE", 3: "NOTIFICATION", 4: "KEEPALIVE", 5: "ROUTE-REFRESH"}
-# Least octets of data that are looked for where no table says what they are.
+# The least length of data that is searched for where no table says what they are.
 TELLING = 4
 
 
@@ -36,7 +36,7 @@ def in_attributes(octets, data):
 
 
 def lacks(octets, kind):
-    """Whether an UPDATE has routes and lacks an attribute; NEXT_HOP is for those of its last field alone."""
+    """Whether an UPDATE has routes and lacks an attribute; NEXT_HOP is only for those of its last field."""
     kinds = {it for _, it, _, _ in contexts.attributes_in(octets)}
     at = 23 + int.from_bytes(octets[19:21], "big")
     has_routes = at <= len(octets) and at + int.from_bytes(octets[at - 2:at], "big") < len(octets)
@@ -44,7 +44,7 @@ def lacks(octets, kind):
 
 
 def in_update(octets, subcode, data):
-    """Where the data of a NOTIFICATION 3/x stand in an UPDATE (RFC 4271, section 6.3)."""
+    """The offset of the data of a NOTIFICATION 3/x in an UPDATE (RFC 4271, section 6.3)."""
     if subcode == 3 and len(data) == 1:
         return (21, 2) if lacks(octets, data[0]) else None
     found = in_attributes(octets, data) if data else None
@@ -54,7 +54,7 @@ def in_update(octets, subcode, data):
 
 
 def stands(message, code, subcode, data):
-    """Where the data of a NOTIFICATION stand in a message, as the tables of RFC 4271, section 6, RFC 6608 and RFC 7313 say: the offset and the size."""
+    """The position of the data of a NOTIFICATION in a message, as the tables of RFC 4271, section 6, RFC 6608 and RFC 7313 say: the offset and the size."""
     octets = message.octets
     if code == HEADER and len(octets) >= streams.HEADER_OCTETS:
         if subcode == 2 and len(data) == 2:
@@ -90,7 +90,7 @@ def says_something(verdict):
 
 
 def unexpected(messages, subcode):
-    """The messages that don't belong where they came (RFC 6608): in OpenSent all but an OPEN, in OpenConfirm all but a KEEPALIVE, then an OPEN."""
+    """The messages that are out of place (RFC 6608): in OpenSent all but an OPEN, in OpenConfirm all but a KEEPALIVE, then an OPEN."""
     if subcode == 1:
         return [n for n, it in enumerate(messages) if n == 0 and it.kind != streams.OPEN]
     if subcode == 2:
@@ -105,7 +105,7 @@ def last_of(found, preferred):
 
 
 def choose(messages, verdicts, answer, is_missing):
-    """Blames one of these messages, all of which came before the NOTIFICATION, or none. Where octets are missing, none of which `bgp` says nothing."""
+    """Blames one of these messages, all of which precede the NOTIFICATION, or none. Where octets are missing, none of which `bgp` says nothing."""
     code, subcode, data = codes_of(answer)
     spoken = [n for n, it in enumerate(verdicts) if says_something(it)]
     places = {n: where for n, it in enumerate(messages) if data and (where := stands(it, code, subcode, data))}

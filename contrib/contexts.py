@@ -31,8 +31,8 @@ def capabilities_of(body):
 
 
 def said_in(messages):
-    """What the OPEN that comes first says: the AS number, whether it offers numbers of four octets, its families, the Hold Time, and all its
-    capabilities. None where there is no OPEN."""
+    """What the first OPEN says: the AS number, whether it offers 4-octet AS numbers, its families, the Hold Time, and all its
+    capabilities. None without an OPEN."""
     if not messages or messages[0].kind != streams.OPEN or len(messages[0].octets) < streams.LEAST[streams.OPEN]:
         return None
     message = messages[0].octets
@@ -47,7 +47,7 @@ def said_in(messages):
 
 
 def agreed(one, other):
-    """What two OPENs agree on, as `bgp --opens` has it. Where one is missing, the other one says what can't be: the rest is a guess, at first that of most
+    """What two OPENs agree on, as `bgp --opens` finds it. Where one is missing, the other one says what can't be: the rest is a guess, at first that of most
     sessions."""
     known = [said for said in (one, other) if said is not None]
     if len(known) == 2:
@@ -73,7 +73,7 @@ def faults(objects):
 
 def guessed(program, context, messages):
     """A context in which the width of AS numbers, and whether both are of one AS, fit these UPDATEs best; and how many of these are at fault with it and
-    with the other width. The other way round only what fits better is taken."""
+    with the other width. A later guess is accepted only where it fits better."""
     updates = [it for it in messages if it.kind == streams.UPDATE]
     if not updates or not context.guessed & {"wide", "internal"}:
         return context, None
@@ -131,7 +131,7 @@ def has_path_identifiers(sender, receiver):
 
 
 def may_agree(sender, receiver, code, size):
-    """Whether both agree on a capability, or may do so, as far as their OPENs are there: the same one, or the same value in it where it has some."""
+    """Whether both agree on a capability, or may do so, as far as their OPENs are known: the same one, or the same value in it where it has some."""
     known = [said for said in (sender, receiver) if said is not None]
     if size == 0:
         return all(any(it == code for it, _ in said.capabilities) for said in known)
@@ -139,7 +139,7 @@ def may_agree(sender, receiver, code, size):
 
 
 def attributes_in(update):
-    """The attributes of an UPDATE, each with its offset, its type, the octets before its value, and all its octets; as far as they are there."""
+    """The attributes of an UPDATE, each with its offset, its type, the octets before its value, and all its octets; as far as they are present."""
     if len(update) < 23:
         return
     at = 23 + int.from_bytes(update[19:21], "big")
@@ -169,7 +169,7 @@ def has_other_next_hop(update):
 
 
 def unread(message, sender, receiver):
-    """What a message is that `bgp` would take for a fault though both agreed on it, or may have: none where it is no such."""
+    """What a message is that `bgp` would take for a fault though both agreed on it, or may have: none where it isn't one."""
     if message.kind == streams.ROUTE_REFRESH:
         return "of type 5 (ROUTE-REFRESH)"
     if len(message.octets) > LONGEST and may_agree(sender, receiver, EXTENDED, 0):

@@ -6,8 +6,8 @@ the file.
             print(record.time, record.session.peer, record.session.peer_as, record.octets or record.change)
         print(archive.left_out)
 
-A record is a BGP message, with its octets, or a change of a session's state. It comes of BGP4MP and BGP4MP_ET, or of an entry of TABLE_DUMP_V2, which
-becomes an UPDATE of its own with AS numbers of four octets. What is left out is counted by kind. Where the file is damaged, `Damage` tells it behind
+A record is a BGP message, with its octets, or a change of a session's state. It is from BGP4MP and BGP4MP_ET, or from an entry of TABLE_DUMP_V2, which
+becomes an UPDATE of its own with 4-octet AS numbers. What is left out is counted by kind. Where the file is damaged, `Damage` reports it after
 the last record before that.
 """
 import bz2
@@ -29,13 +29,13 @@ NEXT_HOP_OCTETS = {1: (4,), 2: (16, 32)}
 # How much is read at a time of a plain file and of a packed one, and how much bzip2 unpacks at a time. gzip unpacks an octet to 1032 at most.
 PLAIN_BLOCK, PACKED_BLOCK, UNPACKED_BLOCK = 1 << 18, 1 << 15, 1 << 14
 
-# A longer record is taken for damage: that of a prefix with an entry for each of 65535 peers stays below it.
+# A longer record counts as damage: that of a prefix with an entry for each of 65535 peers stays below it.
 LONGEST_RECORD = 1 << 24
 
-# So many sessions, and headers of messages, are remembered, so that a file in which each is another needs no more memory.
+# The most sessions, and headers of messages, that are remembered, so that a file in which each is another needs no more memory.
 MOST_KNOWN = 1 << 16
 
-# A record's header: the time, type and subtype as one number, and the length. What is kept of it and of what follows tells the time: the second, the
+# A record's header: the time, type and subtype as one number, and the length. The time is in what is kept of it and of what follows: the second, the
 # type, and the microsecond where the type has one.
 HEAD = struct.Struct(">III")
 TIME = struct.Struct(">IH6xI")
@@ -56,7 +56,7 @@ Record = collections.namedtuple("Record", "time session octets change")
 
 
 class Session:
-    """Whose messages or changes of state: a peer's address and AS number, the collector's AS number (None in a table, which doesn't tell it), the
+    """Whose messages or changes of state: a peer's address and AS number, the collector's AS number (None in a table, which doesn't have it), the
     octets of AS numbers in the messages, and what was recorded: messages that the collector received (RECEIVED) or sent (SENT), entries of a table
     (TABLE), or changes of state (STATE). An item of it begins with the time; `start` is where the message or the states begin, four octets later
     where there are microseconds."""
@@ -82,7 +82,7 @@ class Damage(Exception):
 
 class Form:
     """A subtype of BGP4MP: the octets of AS numbers, what it records, and where its fields begin. And what is known of its records: their sessions by
-    these fields, and messages by what stands before their bodies."""
+    these fields, and messages by what precedes their bodies."""
 
     def __init__(self, width, what, begin):
         self.width, self.what, self.begin = width, what, begin
@@ -110,7 +110,7 @@ class Form:
         return session, end
 
     def key(self, block, at):
-        """What a message is known by: the record's header behind its time, and as much of what follows as stands before a body with IPv4."""
+        """What a message is known by: the record's header after its time, and as much of what follows as precedes a body with IPv4."""
         behind = at + self.ends[1] + HEADER_OCTETS
         if self.begin == HEAD.size:
             return block[at + 4:behind]
@@ -118,7 +118,7 @@ class Form:
 
 
 def keep_at_most(count, known):
-    """A dictionary, emptied where it has so many keys."""
+    """A dictionary, emptied when it reaches this number of keys."""
     if len(known) >= count:
         known.clear()
     return known
@@ -157,7 +157,7 @@ def address(octets):
 
 
 def opened(session, items):
-    """What items of a session have: the form in which their times are written, in seconds since 1970, the columns of numbers that stand in it, and
+    """What items of a session have: the form in which their times are written, in seconds since 1970, the columns of numbers in it, and
     the messages."""
     start, kinds = session.start, set(map(KIND, items))
     if BGP4MP_ET not in kinds:
@@ -183,7 +183,7 @@ def states(octets):
 
 
 def number_in(octets, at, size):
-    """The number of so many octets at this offset."""
+    """The number of this length at this offset."""
     if at + size > len(octets):
         raise LeftOut("cut off")
     return int.from_bytes(octets[at:at + size], "big")
@@ -196,7 +196,7 @@ def why_unread(number):
     if number in OTHER_FAMILIES:
         return "of another family"
     kind, subtype = divmod(number, 1 << 16)
-    # Of few types the subtype is told, so that there are only so many kinds in any file.
+    # The subtype is reported only for few types, so that the number of kinds in any file is limited.
     return f"of another kind (type {kind}, subtype {subtype})" if kind in (TABLE_DUMP_V2, BGP4MP, BGP4MP_ET) else f"of another kind (type {kind})"
 
 
@@ -209,7 +209,7 @@ def inflated(part, block):
     try:
         octets = part.decompress(block)
     except zlib.error as fault:
-        # Once more, octet by octet: so all is kept that stands before the damage.
+        # Once more, octet by octet: so all that precedes the damage is kept.
         with contextlib.suppress(zlib.error):
             for at in range(len(block)):
                 yield before.decompress(block[at:at + 1])
@@ -238,7 +238,7 @@ def packing_of(start):
 
 
 def unpacked(blocks, make, unpack):
-    """What the blocks of a packed file unpack to. Parts may stand one behind the other, and zeros behind the last."""
+    """What the blocks of a packed file unpack to. Parts may follow each other, and zeros the last."""
     part = make()
     for block in blocks:
         while block:
@@ -283,7 +283,7 @@ def reach_in(attributes):
 
 
 def next_hop_in(value):
-    """The next hop of a table's MP_REACH_NLRI with its length, which is all that stands there. Some collectors write the whole attribute."""
+    """The next hop of a table's MP_REACH_NLRI with its length, which is all that it has. Some collectors write the whole attribute."""
     is_whole = value[:1] == b"\0"
     at = 3 if is_whole else 0
     end = at + 1 + int.from_bytes(value[at:at + 1], "big")
@@ -293,7 +293,7 @@ def next_hop_in(value):
 
 
 def announced(family, prefix, attributes):
-    """The UPDATE that announces a prefix with the attributes of a table's entry: IPv6, whose next hop stands in MP_REACH_NLRI, there, and IPv4 as
+    """The UPDATE that announces a prefix with the attributes of a table's entry: IPv6, whose next hop is in MP_REACH_NLRI, there, and IPv4 as
     NLRI."""
     reach = reach_in(attributes) if family == 2 or b"\x0e" in attributes else None
     if reach is not None:
@@ -316,8 +316,8 @@ def announced(family, prefix, attributes):
 
 
 class Archive:
-    """A file of records: by turns of a loop, once. `left_out` counts by kind what isn't handed out, and `first_cut` is the offset of the first record
-    that is cut off inside. `size` is how many octets the file has (0 where that can't be known), and `read` how many of them were read. `each_block`
+    """A file of records: by turns of a loop, once. `left_out` counts by kind what isn't given, and `first_cut` is the offset of the first record
+    that is cut off inside. `size` is the length of the file (0 where that can't be known), and `read` the number of octets read. `each_block`
     is called before each read."""
 
     def __init__(self, path, each_block=lambda: None):
@@ -415,7 +415,7 @@ class Archive:
         return end if end <= len(block) else None
 
     def keep_known(self, block, at):
-        """Adds messages to those that are kept, as long as each has the form of the last one that was read, and all is known that stands before its
+        """Adds messages to those that are kept, as long as each has the form of the last one that was read, and all is known that comes before its
         body: then nothing in it has to be read. Answers where the first begins of which that isn't so.
         """
         form, end = self.form, len(block)
@@ -423,7 +423,7 @@ class Archive:
         end4, end6 = (form.ends[family] + HEADER_OCTETS for family in (1, 2))
         last = end - end6
         while at <= last:
-            # As `Form.key` has it.
+            # As in `Form.key`.
             message = known(block[at + 4:at + end4] if has_no_micro else block[at + 4:at + 12] + block[at + begin:at + end4])
             if message is None:
                 break
@@ -453,7 +453,7 @@ class Archive:
 
     @staticmethod
     def message(form, record):
-        """The message of a record. What stands before its body is remembered, once it is known where the session's items are kept."""
+        """The message of a record. What precedes its body is remembered, once it is known where the session's items are kept."""
         session, start = form.session(record)
         length = len(record) - start
         if length < HEADER_OCTETS:
@@ -473,14 +473,14 @@ class Archive:
 
     @staticmethod
     def change(form, record):
-        """The change of state that a record tells of."""
+        """The change of state in a record."""
         session, end = form.session(record)
         if len(record) < end + 4:
             raise LeftOut("cut off")
         return session, record
 
     def entries(self, family, body, at):
-        """The entries of a table for one prefix, each as an UPDATE of the time at which the collector heard it."""
+        """The entries of a table for one prefix, each as an UPDATE of the time at which the collector received it."""
         if self.peers is None:
             raise LeftOut("without a table of peers")
         bits = number_in(body, 4, 1)

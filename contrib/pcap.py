@@ -18,7 +18,7 @@ FIELDS = [
 FIN, SYN, RST, ACK = 0x01, 0x02, 0x04, 0x10
 NUMBERS = 1 << 32
 
-# A connection that is over is told once nothing more came for so many seconds, on the capture's clock, or on ours where the capture comes in at present.
+# A finished connection is reported once nothing more arrived for this many seconds, on the capture's clock, or on ours for a live capture.
 LATE, IDLE = 2, 1
 
 End = collections.namedtuple("End", "address port")
@@ -61,11 +61,11 @@ class Direction:
         self.last = time
 
     def place_of(self, number):
-        """The offset that a sequence number stands for."""
+        """The offset of a sequence number."""
         return self.place + signed(number - self.origin - self.place)
 
     def runs(self):
-        """The octets in order, as they came without a gap; offsets count from the first octet of the connection, or the first that was captured."""
+        """The octets in order, as received without a gap; offsets count from the first octet of the connection, or the first that was captured."""
         ordered = sorted((it for it in self.segments if it.octets), key=lambda it: it.place)
         places = [it.place for it in self.segments]
         self.base = self.begin if self.begin is not None else min(places, default=self.place)
@@ -146,7 +146,7 @@ def signed(number):
 
 
 class Capture:
-    """A capture: its connections of a port, each when it is over where the capture comes in at present, and else at the end. Then `ports` counts the
+    """A capture: its connections of a port, each when it is over for a live capture, and else at the end. Then `ports` counts the
     packets of others, `marked` has those of which octets look like BGP, `headless` counts the packets that are cut inside their headers, and `damage`
     says what `tshark` said."""
 
@@ -162,7 +162,7 @@ class Capture:
         if shutil.which(command[0]) is None:
             raise OSError("there is no tshark: Debian's package of that name has it")
         if self.is_live:
-            # What ends the capture, as Ctrl-C does, doesn't end this before all is told; a second one does.
+            # What ends the capture, as Ctrl-C does, doesn't end this before all is reported; a second one does.
             signal.signal(signal.SIGINT, lambda *_: signal.signal(signal.SIGINT, signal.SIG_DFL))
         with tempfile.TemporaryFile() as said, subprocess.Popen(command, stdout=subprocess.PIPE, stderr=said, start_new_session=self.is_live) as process:
             for line in lines_of(process.stdout.fileno()):
@@ -217,7 +217,7 @@ class Capture:
             self.connections[way.connection].ways[way].unreachable = int(kind[1] or 0)
 
     def over(self, time):
-        """The connections that are over, of which nothing came for a while at this time, or where nothing at all came for a while."""
+        """The finished connections, of which nothing arrived for a while at this time, or where nothing at all arrived for a while."""
         for number, it in [*self.connections.items()]:
             if it.is_over() and (time is None or time > it.last() + LATE):
                 del self.connections[number]
@@ -225,7 +225,7 @@ class Capture:
                 yield it
 
     def without(self):
-        """What is told of a capture without a connection of the port."""
+        """What is reported of a capture without a connection of the port."""
         if self.headless:
             return f"no BGP can be read: {self.headless} packets of TCP port {self.port} are cut inside their headers (snap length)"
         seen = ", ".join(f"{protocol} {port} ({count})" for (protocol, port), count in self.ports.most_common(8) if count)
@@ -234,7 +234,7 @@ class Capture:
 
 
     def told_at_the_end(self, name, count):
-        """Tells what was left out and what is wrong with the capture, of which so many connections were told, and answers the status."""
+        """Reports what was left out and what is wrong with the capture, of which this number of connections was reported, and answers the status."""
         if self.headless:
             print(f"{name}: left out: {self.headless} packets that are cut inside their headers", file=sys.stderr)
         if self.damage:
@@ -246,7 +246,7 @@ class Capture:
 
 
 def lines_of(file):
-    """The lines that come, and none where for a while there is no more."""
+    """The lines that arrive, and none where for a while there are no more."""
     held = b""
     while True:
         while not select.select([file], [], [], IDLE)[0]:

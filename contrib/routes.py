@@ -2,7 +2,7 @@
 import csv
 import json
 
-# The columns of a row; in an object a member that isn't known isn't there.
+# The columns of a row; in an object a member that isn't known is missing.
 COLUMNS = ("time", "peer", "peer_as", "to", "action", "prefix", "as_path", "next_hop", "communities", "large_communities")
 ANNOUNCED, WITHDRAWN, END_OF_RIB = "announce", "withdraw", "end_of_rib"
 FROM_MESSAGE = ("time", "peer", "peer_as", "to", "place")
@@ -10,7 +10,7 @@ FROM_ATTRIBUTES = ("as_path", "as4_path", "origin", "med", "local_pref", "commun
 
 
 def routes_of(message):
-    """A route after the other, as objects: those that are withdrawn first, as RFC 4271, section 3.1, has it. Of an UPDATE that is treated as a withdrawal
+    """The routes in sequence, as objects: those that are withdrawn first, by RFC 4271, section 3.1. Of an UPDATE that is treated as a withdrawal
     all are withdrawn."""
     who = {name: message[name] for name in FROM_MESSAGE if name in message}
     gone = message.get("withdrawn", []) + message.get("mp_unreach", {}).get("withdrawn", []) + message.get("routes", [])
@@ -35,7 +35,7 @@ def end_of_rib(message):
 
 
 def path_in_words(path):
-    """A path as routers print it: a set stands in braces."""
+    """A path as routers print it: a set is in braces."""
     return " ".join(" ".join(map(str, it["as"])) if it["type"] == "sequence" else "{" + ",".join(map(str, it["as"])) + "}" for it in path)
 
 
@@ -55,7 +55,7 @@ class Writer:
             self.rows.writerow(COLUMNS)
 
     def add(self, line):
-        """Writes the routes of a line. Of what is no UPDATE there are none."""
+        """Writes the routes of a line. Anything but an UPDATE has none."""
         if '"kind":"UPDATE"' not in line:
             return
         # A time keeps its six digits.

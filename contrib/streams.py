@@ -17,15 +17,15 @@ MARKER = b"\xff" * 16
 # The least length of each type (RFC 4271, section 4; RFC 2918, section 3), by which a header is known where reading resumes.
 LEAST = {OPEN: 29, UPDATE: 23, NOTIFICATION: 21, KEEPALIVE: 19, ROUTE_REFRESH: 23}
 
-# After a message that ends a stream for the program, so many are tried at once, and then twice as many.
+# After a message that ends a stream for the program, this many are tried at once, and then twice the number.
 FEW = 64
 
-# How many octets are held before they are written.
+# The octets that are held before they are written.
 HELD = 1 << 25
 
 
 def in_a_name(address):
-    """An address as it stands in a file's name."""
+    """An address as in a file's name."""
     return str(address).replace(":", "-")
 
 
@@ -35,16 +35,16 @@ def flags_of(as4, ip4, ip6, internal):
 
 
 def described(name, count, flags):
-    """The line that says of a stream what its file is, how many messages it has and which flags it is shown with."""
+    """The line on a stream: its file, its number of messages, and the flags that it is shown with."""
     return f"{name} messages {count} flags {flags or '-'}"
 
 
-# Octets that came without a gap, from this offset on, with the offsets where its segments end and the times of these.
+# Octets received without a gap, from this offset on, with the offsets where its segments end and the times of these.
 Run = collections.namedtuple("Run", "place octets ends times")
-# A message: its offset, its type, its octets (not all of them where it is incomplete), and when the last of them came.
+# A message: its offset, its type, its octets (not all of them where it is incomplete), and when the last of them arrived.
 Message = collections.namedtuple("Message", "place kind octets time")
-# Octets that weren't captured, from an offset up to another, and those that were passed over from there up to where reading resumed (none: it didn't), when
-# (none: nothing came after them), and the offset of a message that began before them and is incomplete (none: there is no such).
+# Octets that weren't captured, from an offset up to another, and those that were passed over from there up to where reading resumed (none: it didn't),
+# when (none: nothing came after them), and the offset of a message that began before them and is incomplete (none: there isn't one).
 Gap = collections.namedtuple("Gap", "place end resumed time cut")
 
 
@@ -68,7 +68,7 @@ def length_at(octets, at):
 
 
 def resumed_at(octets, at):
-    """The offset of the next header that fits and that another one, or the end of the octets, follows: none where there is no such."""
+    """The offset of the next header that fits and that another one, or the end of the octets, follows: none where there isn't one."""
     while (at := octets.find(MARKER, at)) >= 0:
         length = length_at(octets, at)
         following = octets[at + length:at + length + HEADER_OCTETS]
@@ -86,7 +86,7 @@ class Reading:
     def __init__(self, runs, is_begun):
         self.messages, self.cut, self.gaps = [], [], []
         self.rest = Message(0, None, b"", None)
-        # Where the next message begins, as far as that is known, and where the octets end that came so far.
+        # Where the next message begins, as far as that is known, and where the octets received so far end.
         begin, end = 0 if is_begun else None, 0
         for run in runs:
             missing, end = (end, run.place), run.place + len(run.octets)
@@ -101,7 +101,7 @@ class Reading:
                 self.gaps.append(Gap(*missing, None if at is None else run.place + at, run.times[0], cut))
             begin = self.read(run, at) if at is not None else None
             if begin is None and not self.gaps and len(self.rest.octets) >= HEADER_OCTETS:
-                # A header at fault, and not one that was taken for a header.
+                # A header at fault, and not octets mistaken for a header.
                 return
 
     def read(self, run, at):
@@ -147,7 +147,7 @@ def gap_in_words(gap, whose=""):
 
 
 def time_at(run, end):
-    """When the last of so many octets of a run came."""
+    """When the last of the first octets of a run, this many, arrived."""
     return run.times[bisect.bisect_left(run.ends, end)]
 
 
@@ -188,7 +188,7 @@ class Program:
 
 
 def object_of(message, line):
-    """A message's object. Of the many UPDATEs against which nothing is said it has the first members alone."""
+    """A message's object. For the many UPDATEs without a fault or note it has only the first members."""
     if line.endswith(b'"notes":[]}') and b'"verdict":"take"' in line:
         return {"place": message.place, "kind": "UPDATE", "verdict": "take", "notes": []}
     return {"place": message.place, **json.loads(b"{" + line)}
@@ -202,7 +202,7 @@ def add_program(parser):
 
 
 def run_main(name, main):
-    """Runs a script, and ends with its status: 4 where a read or a write fails, which is told."""
+    """Runs a script, and ends with its status: 4 where a read or a write fails, which is reported."""
     try:
         status = main()
         sys.stdout.flush()
@@ -226,7 +226,7 @@ class Outputs:
         self.size = 0
 
     def add(self, name, octets, messages=1):
-        """Adds octets to a file, which is new where this is the first that comes of it."""
+        """Adds octets to a file, which is new where these are its first."""
         if name not in self.counts:
             open(self.path(name), "wb").close()
         self.counts[name] += messages
@@ -247,6 +247,6 @@ class Outputs:
         self.forget()
 
     def forget(self):
-        """Forgets what is held."""
+        """Drops what is held."""
         self.held.clear()
         self.size = 0

@@ -1,6 +1,6 @@
-"""Reads the public calls of the libraries off their sources, for docs/make-proofs: each with its words, its clauses and the lines it stands in.
+"""Reads the public calls of the libraries off their sources, for docs/make-proofs: each with its words, its clauses and the lines it is in.
 
-A call is a function that a user of the crate can name: a function that its first file hands on or that stands in a public module, or a method
+A call is a function that a user of the crate can name: a function that its first file exports or that is in a public module, or a method
 of such a type. What a type has of a trait is a call of the type. Sources are laid out by `rt fmt`, and read line by line by that layout.
 """
 
@@ -25,7 +25,7 @@ class Clause:
 
 
 class Block:
-    """What functions stand in: a type's own functions, what it has of a trait, or a trait."""
+    """What functions are in: a type's own functions, what it has of a trait, or a trait."""
 
     def __init__(self, kind, words, said, text):
         self.is_trait, self.said = kind == "trait", said
@@ -38,7 +38,7 @@ class Block:
 
 
 class Function:
-    """A function: where it stands, what is said of it, its head and its contract."""
+    """A function: where it is, its comment, its head and its contract."""
 
     def __init__(self, crate, path, block, found, said, lines):
         self.crate, self.path, self.block, self.said, self.name = crate, path, block, said, found[3]
@@ -51,7 +51,7 @@ class Function:
 
 
 def unwrapped(words):
-    """Words behind `impl` or `trait`, without parameters in front and what stands behind the name."""
+    """Words after `impl` or `trait`, without parameters before and what follows the name."""
     words = words.strip().removesuffix("{").removesuffix("{}").strip()
     if words.startswith("<"):
         depth = 0
@@ -108,7 +108,7 @@ def said_above(lines, at):
 
 
 class Source:
-    """A file of a crate: its functions, and its types with what is said of them."""
+    """A file of a crate: its functions, and its types with their comments."""
 
     def __init__(self, crate, path):
         self.crate, self.path, self.text = crate, path, path.read_text(encoding="utf-8")
@@ -150,7 +150,7 @@ class Source:
 
 
 class Crate:
-    """A crate: what is said of it, its files in order, what it hands on, and its calls."""
+    """A crate: its comment, its files in order, what it exports, and its calls."""
 
     def __init__(self, name):
         self.name, self.folder = name, CRATES / name / "src"
@@ -167,7 +167,7 @@ class Crate:
         return self.is_open or name in self.exported or source.path.stem in self.modules
 
     def types(self):
-        """What is said of each type."""
+        """The comment on each type."""
         return {name: said for source in self.sources for name, said in source.types.items()}
 
     def traits(self):

@@ -1,4 +1,4 @@
-"""The commands and flags of a program, as the help that it prints tells them."""
+"""The commands and flags of a program, as in the help that it prints."""
 import collections
 import re
 import subprocess
@@ -41,7 +41,7 @@ def arguments_in(text):
 
 
 def read(program, *words):
-    """What the help of a program, or of one of its commands, tells: the command, and those below it."""
+    """The content of the help of a program, or of one of its commands: the command, and those below it."""
     text = help_of(program, *words)
     listed = [line.split(None, 1) for line in section(text, "Commands")]
     # The library of the command line makes this one, which has no help of its own.

@@ -15,7 +15,7 @@ MAINTAINER = (TOP / "packaging/maintainer").read_text().strip()
 # The first packages of this version.
 REVISION = f"{VERSION}-1"
 LIBRARY = f"libristulva{SERIES}"
-# From so many octets on Debian compresses a document.
+# From this length on Debian compresses a document.
 LONG = 4096
 
 OF_LIBRARY = (
@@ -82,12 +82,12 @@ clean:
 
 
 def folded(text):
-    """A text as a field of Debian's has it behind its first line."""
+    """A text in the form of a Debian field after its first line."""
     return "".join(f" {line or '.'}\n" for line in text.strip("\n").split("\n"))
 
 
 def kits():
-    """What comes of the kit: what is said of all, and of each crate its name, who has the copyright, and its terms."""
+    """What is from the kit: the text on all, and of each crate its name, its copyright holder, and its terms."""
     text = (TOP / "packaging/licences-of-the-kit").read_text()
     parts = re.findall(r"^==== (\w+) ====\n\n(.*?)(?=^====|\Z)", text, re.M | re.S)
     return text.partition("====")[0], [(name, re.findall(r"^Copyright (.*)$", said, re.M), said) for name, said in parts]
@@ -136,7 +136,7 @@ def compress(folder, time):
 
 
 def name_compressed(folder):
-    """Pages name documents as they lie there."""
+    """Pages name documents as they are installed there."""
     for page in folder.glob("usr/share/man/man*/*.[0-9]"):
         text = page.read_text()
         for path in folder.glob("usr/share/doc/*/*.md"):

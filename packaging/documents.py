@@ -9,7 +9,7 @@ import pathlib
 import re
 import sys
 
-# What stands first in the paths of the tree, and what starts there.
+# What is first in the paths of the tree, and what starts there.
 PATHS = re.compile(r"(?<![\w./-])(?:(checks|contrib|crates|bindings|docs|examples|packaging|tools|web)/[\w./*-]*\w|\./(?:build|prove|test)\b)")
 DOCUMENTS = re.compile(r"\b(?:[A-Z]{4,}|C)\.md\b")
 LINKS = re.compile(r"(!?)\[([^\]]*)\]\(([^)\s]*)\)")

@@ -21,7 +21,7 @@ UNBUILT, MISSING = 66, 69
 
 
 class Stop(Exception):
-    """What is wrong, and the status that tells it."""
+    """What is wrong, and its status."""
 
     def __init__(self, why, status=1):
         super().__init__(why)
@@ -157,7 +157,7 @@ def tar_of(folder, name, time):
         for path in [folder, *sorted(folder.rglob("*"))]:
             it = tar.gettarinfo(path, str(pathlib.PurePosixPath(name, path.relative_to(folder).as_posix())))
             it.mtime, it.uid, it.gid, it.uname, it.gname = time, 0, 0, "root", "root"
-            # A name that stands twice is written once more: no link between files of the archive.
+            # A name that occurs twice is written once more: no link between files of the archive.
             if it.islnk():
                 it.type, it.size = tarfile.REGTYPE, path.stat().st_size
             tar.addfile(it, open(path, "rb") if it.isreg() else None)

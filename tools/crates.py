@@ -19,7 +19,7 @@ NO_RT = "there is no rt on the path: CONTRIBUTING.md says where it comes from"
 # The kits whose rt is known from inside, the newest last.
 KNOWN_KITS = ["rattle-kit-13b logic dac8208d650f15bf", "rattle-kit-13f logic dac8208d650f15bf"]
 
-# From so many lines on a crate gains by so many jobs, as rt counts them. Below, most of the time goes into reading its libraries.
+# From this number of lines on a crate gains by this number of jobs, as rt counts them. Below, most of the time goes into reading its libraries.
 JOBS = [(3000, 4), (1000, 2), (0, 1)]
 
 # Beside other work that is ready, no proof gets more: what is proved by more jobs costs more processor time. Where processors are idle beyond these, the
@@ -40,12 +40,12 @@ def lines():
 
 
 def below():
-    """What each crate stands on, of this repository and of the kit, lowest first."""
+    """What each crate depends on, of this repository and of the kit, lowest first."""
     return {name: line.partition(":")[2].split() for name, line in lines().items()}
 
 
 def with_below(targets):
-    """These crates and all of this repository that they stand on, lowest first."""
+    """These crates and all of this repository that they depend on, lowest first."""
     stands_on, wanted, left = below(), set(), [*targets]
     while left:
         name = left.pop()
@@ -64,7 +64,7 @@ def rt_path():
 
 
 def kit(path):
-    """The kit of this rt, as it tells it."""
+    """The kit of this rt, as it reports it."""
     return subprocess.run([path, "version"], capture_output=True, text=True, check=False).stdout.strip()
 
 
@@ -92,7 +92,7 @@ def fills(key):
 
 
 def jobs_for(key, lines_of_it, idle, others):
-    """How many jobs a task gets, of so many idle processors and beside so many other tasks that could begin."""
+    """The number of jobs of a task, with this number of idle processors and of other tasks that could begin."""
     if key[1] not in ("proof", "seed"):
         return 1 if key[1] != "tests" else min(JOBS_BESIDE, idle)
     most = next(jobs for least, jobs in JOBS if lines_of_it >= least)
@@ -102,7 +102,7 @@ def jobs_for(key, lines_of_it, idle, others):
 
 
 def chains(tasks):
-    """The lines of the longest chain of tasks behind each, with its own."""
+    """The lines of the longest chain of tasks after each, with its own."""
     behind = dict.fromkeys(tasks, 0)
     # (a task comes after those that it waits for)
     for key in reversed([*tasks]):
@@ -113,12 +113,12 @@ def chains(tasks):
 
 
 class Lanes:
-    """Tasks side by side: one a processor, as many as memory holds, and first those with the longest chain of others behind them.
+    """Tasks side by side: one a processor, as many as memory holds, and first those with the longest chain of others after them.
 
-    A task stands under its crate's name and its kind (proof, tests, edits and so on), and is what it waits for, its lines, its memory in bytes, and a
+    A task is keyed by its crate's name and its kind (proof, tests, edits and so on), and is what it waits for, its lines, its memory in bytes, and a
     call that gets what the others gave and how many jobs it may use."""
 
-    # After so many seconds at most `tell` is called again; None: where a task has ended.
+    # After at most this many seconds `tell` is called again; None: where a task has ended.
     BEAT = None
 
     def __init__(self, tasks, lanes, memory):
@@ -142,7 +142,7 @@ class Lanes:
         return self.tasks[key[0], "proof"][1] if key[1] == "seed" else self.tasks[key][1]
 
     def needs_work(self, key):
-        """Whether the task is one that takes long: tests that there aren't, and what only looks at results, don't."""
+        """Whether the task is one that takes long: missing tests, and what only reads results, don't."""
         return key[1] in ("proof", "seed", "edits") or self.tasks[key][1] > 0
 
     def begin(self, pool):

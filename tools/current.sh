@@ -1,6 +1,6 @@
 # Whether a program is newer than its sources, read by `bgp` and `test`, which have to start at once and so without Python.
 
-# The folders of a crate and of those that it stands on, its own last, as crates.txt lists them.
+# The folders of a crate and of those that it depends on, its own last, as crates.txt lists them.
 folders_of() { # the repository, the crate
     awk -F ':' -v crates="$1/crates/" -v of="$2" '
         /^[^#]/ { split($1, words, " "); name[++count] = words[1]; below[words[1]] = $2 }

@@ -1,5 +1,5 @@
 "use strict";
-// The card of a message: its verdict, what it says, its octets, and its fields. What octets say goes in as text alone.
+// The card of a message: its verdict, what it says, its octets, and its fields. What octets say is inserted only as text.
 
 const VERDICTS = {
     [C.OPEN]: ["take", "accepted"], [C.UPDATE]: ["take", "accepted"], [C.KEEPALIVE]: ["take", "accepted"], [C.NOTIFICATION]: ["came", "the peer ended the session"],
@@ -15,7 +15,7 @@ for (const [hue, words] of Object.entries({
     route: "WITHDRAWN_PREFIX UNREACH_PREFIX4 UNREACH_PREFIX6 REACH_PREFIX4 REACH_PREFIX6 NLRI_PREFIX", value: "CAPABILITY_VALUE ATTRIBUTE_VALUE DATA", unread: "UNREAD",
 })) for (const word of words.split(" ")) HUES[F[word]] = hue;
 
-// An element with properties, and what stands in it: elements, or text.
+// An element with properties, and its content: elements, or text.
 function make(tag, properties, ...children) {
     const { data, ...own } = properties ?? {}, it = Object.assign(document.createElement(tag), own);
     Object.assign(it.dataset, data);

@@ -1,6 +1,6 @@
 "use strict";
 // The calls of ristulva.h that the page makes, over the memory of the proved module. Its addresses have 64 bits: pointers and lengths are BigInts.
-// STRUCTS, C and WASM stand before this: the structures and the constants of the header, and the module.
+// STRUCTS, C and WASM precede this: the structures and the constants of the header, and the module.
 
 const SIZES = { uint8_t: 1, uint16_t: 2, uint32_t: 4, size_t: 8 };
 
@@ -24,7 +24,7 @@ class Library {
         const { buffer } = this.calls.memory;
         this.view = new DataView(buffer);
         this.memory = new Uint8Array(buffer);
-        // What is left of the memory that the module begins with is the caller's. It doesn't grow.
+        // The rest of the memory that the module begins with is the caller's. It doesn't grow.
         let free = Math.ceil(Number(this.calls.__heap_base.value) / 16) * 16;
         const take = (size) => { const at = free; free += Math.ceil(size / 16) * 16; return at; };
         this.places = { context: take(16), word: take(16), out: take(256), note: take(16), text: take(64), data: take(C.DATA), octets: take(C.MESSAGE) };
@@ -53,7 +53,7 @@ class Library {
         return this.calls[`ristulva_${name}`](...words);
     }
 
-    // Calls are made on these octets, the first of a stream: 4096 at most are looked at.
+    // Calls are made on these octets, the first of a stream: 4096 at most are read.
     hold(octets) {
         const some = octets.subarray(0, C.MESSAGE);
         this.memory.set(some, this.places.octets);
@@ -68,7 +68,7 @@ class Library {
         return { ...verdict, data: this.memory.slice(this.places.data, this.places.data + verdict.data_len) };
     }
 
-    // A list of structures, of which a call answers how many it wrote.
+    // A list of structures, of which a call answers the number written.
     list(name, type, room) {
         this.call(name, this.at("context"), ...this.held, this.at("list"), BigInt(room), this.at("word"));
         const count = this.read("size_t", this.places.word), { size } = LAYOUTS[type];
@@ -106,7 +106,7 @@ class Library {
         return String.fromCharCode(...this.memory.subarray(this.places.text, this.places.text + this.read("size_t", this.places.word)));
     }
 
-    // What the OPEN says that octets begin with; nothing where no OPEN is accepted.
+    // What the OPEN says that octets begin with; nothing where there is no accepted OPEN.
     open(octets) {
         this.hold(octets);
         return this.call("open", ...this.held, this.at("out")) === C.OK ? this.read("ristulva_open_fields", this.places.out) : undefined;

@@ -1,10 +1,10 @@
 "use strict";
 // Octets out of what was pasted: digits as they come, or a dump with offsets, as hexdump -C, xxd, tcpdump -x and Wireshark write it.
 
-// An offset in front of digits, `00000010` or `0x0010:`.
+// An offset before digits, `00000010` or `0x0010:`.
 const OFFSET = /^\s*(0x)?([0-9a-f]{4,16})(:|\s|$)(.*)$/i;
 
-// The octets of a line behind its offset: 16 at most, up to a gap or to what is no pair of digits, since the same as text may follow.
+// The octets of a line after its offset: 16 at most, up to a gap or to what isn't a pair of digits, since the same as text may follow.
 function octetsOfLine(rest) {
     const octets = [];
     for (const [, gap, word] of rest.matchAll(/(\s*)(\S+)/g)) {
@@ -14,7 +14,7 @@ function octetsOfLine(rest) {
     return octets.slice(0, 16);
 }
 
-// The packets of a dump, each from an offset of 0 on; nothing where the text is no dump. `told` gets what was done to it.
+// The packets of a dump, each from an offset of 0 on; nothing where the text is no dump. `told` gets what was done to the text.
 function packetsOf(lines, told) {
     const packets = [], isTcpdump = lines.some((it) => /^\s*0x[0-9a-f]{4}:/i.test(it));
     let folded = 0, last = [];

@@ -1,12 +1,12 @@
 "use strict";
 // The page: what is pasted, dropped or chosen becomes octets, and each message of these a card.
 
-// So many messages are shown at once.
+// The number of messages that are shown at once.
 const SHOWN = 50;
-// A fragment holds so many octets at most.
+// The greatest length of a fragment.
 const LINKED = 16384;
 
-// Whether there are memories with addresses of 64 bits.
+// Whether memories with 64-bit addresses are supported.
 const isAble = () => typeof WebAssembly === "object" && WebAssembly.validate(Uint8Array.of(0, 97, 115, 109, 1, 0, 0, 0, 5, 3, 1, 4, 1));
 
 class Page {

@@ -1,6 +1,6 @@
 "use strict";
-// What a message says: the lines of `bgp show`, and what each of its fields says as `bgp explain` has it. Nothing is parsed here: each octet stands in a
-// field that the module tells. NAMES stands before this, taken from the crates; F has the kinds of fields.
+// What a message says: the lines of `bgp show`, and what each of its fields says, as in `bgp explain`. Nothing is parsed here: each octet is in a
+// field that the module reports. NAMES precedes this, taken from the crates; F has the kinds of fields.
 
 const F = Object.fromEntries(Object.entries(C).filter(([name]) => name.startsWith("FIELD_") && name !== "FIELD_NAME").map(([name, value]) => [name.slice(6), value]));
 const KINDS = ["HEADER", "OPEN", "UPDATE", "NOTIFICATION", "KEEPALIVE"];
@@ -13,7 +13,7 @@ const NAMED = { [F.MESSAGE_TYPE]: NAMES.message, [F.PARAMETER_TYPE]: NAMES.param
     [F.ATTRIBUTE_TYPE]: NAMES.attribute, [F.ORIGIN]: NAMES.origin, [F.SEGMENT_TYPE]: NAMES.segment, [F.ERROR_CODE]: NAMES.error };
 
 const numberOf = (octets) => octets.reduce((sum, it) => sum * 256 + it, 0);
-// An address: of IPv6 in all its digits as `bgp show` has it, or in the form of RFC 5952.
+// An address: of IPv6 in all its digits as in `bgp show`, or in the form of RFC 5952.
 const longAddressOf = (octets) => (octets.length === 4 ? octets.join(".") : digitsOf(octets).match(/.{4}/g).join(":"));
 function addressOf(octets) {
     if (octets.length === 4) return octets.join(".");
@@ -21,14 +21,14 @@ function addressOf(octets) {
     const runs = groups.map((_, at) => zeros(at)), longest = Math.max(...runs), at = runs.indexOf(longest), text = (list) => list.map((it) => it.toString(16)).join(":");
     return longest < 2 ? text(groups) : `${text(groups.slice(0, at))}::${text(groups.slice(at + longest))}`;
 }
-// Whole pieces of so many octets.
+// Whole pieces of this length.
 const piecesOf = (octets, size) => Array.from({ length: Math.floor(octets.length / size) }, (_, index) => octets.subarray(size * index, size * index + size));
 const dataOf = (octets) => digitsOf(octets) || "-";
 const numbersOf = (octets) => Array.from({ length: octets.length / 4 }, (_, index) => numberOf(octets.subarray(4 * index, 4 * index + 4)));
 const communityOf = (octets) => `${numberOf(octets.subarray(0, 2))}:${numberOf(octets.subarray(2))}`;
 const subcodeName = (code, subcode) => (NAMES.subcode[code] ?? {})[subcode] ?? "";
 
-// A prefix, with the bits behind its length left out.
+// A prefix, with the bits after its length left out.
 function prefixOf(octets, width, shown) {
     const bits = octets[0], address = new Uint8Array(width);
     address.set(octets.subarray(1));
@@ -36,7 +36,7 @@ function prefixOf(octets, width, shown) {
     return `${shown(address)}/${bits}`;
 }
 
-// The text of RFC 9003 in the data of a NOTIFICATION: nothing where it isn't counted right or is no UTF-8.
+// The text of RFC 9003 in the data of a NOTIFICATION: nothing where it isn't counted right or isn't UTF-8.
 function shutdownOf(code, subcode, data) {
     if (code !== 6 || (subcode !== 2 && subcode !== 4) || data[0] !== data.length - 1) return "";
     try {
@@ -62,7 +62,7 @@ const MODES = { 1: "receive", 2: "send", 3: "send and receive" };
 
 const familyOf = (octets, safi) => `${NAMES.afi[numberOf(octets.subarray(0, 2))] || numberOf(octets.subarray(0, 2))} ${NAMES.safi[safi] || safi}`;
 
-// Texts one after the other, with commas between them; the octets after the last whole piece say nothing, and a comma stands before them.
+// Texts in sequence, with commas between them; the octets after the last whole piece say nothing, and a comma precedes them.
 const rowOf = (octets, size, told) => piecesOf(octets, size).map(told).join(",") + (octets.length > size && octets.length % size ? "," : "");
 
 // A name of FQDN, where it is UTF-8.
@@ -201,7 +201,7 @@ function pathOf(lines, group) {
     return words.join(" ") || "-";
 }
 
-// What an attribute says: its values but for its head, or a path.
+// What an attribute says: its values without its head, or a path.
 function attributeOf(lines, group) {
     const { type } = group[0], values = group.slice(3);
     if (type === 1) return NAMES.origin[lines.octets(values[0])[0]];
@@ -255,7 +255,7 @@ function sectionOf({ verdict, kind }, faultSection) {
     return `RFC 4271, section ${[, "4.2", "4.3", "4.5", "4.4"][kind]}`;
 }
 
-// The first message of octets, which stand at a place of their stream; nothing where there is less than one.
+// The first message of octets, which are at an offset of their stream; nothing where there is less than one.
 function messageOf(library, context, stream, place) {
     library.hold(stream.subarray(place));
     const verdict = library.judge(context);
@@ -325,7 +325,7 @@ function isBlamed(octets, note, field) {
     }
 }
 
-// Whether it is told above a field: above what it is about, else above the last field of its attribute, or above the first one behind it.
+// Whether it is printed above a field: above what it is about, else above the last field of its attribute, or above the first one after it.
 function isTold(octets, note, field) {
     if (!note.at) return false;
     if (field.group !== note.at) return note.at < field.at;
@@ -333,7 +333,7 @@ function isTold(octets, note, field) {
     return isBlamed(octets, note, field) || note.at + length <= field.at + field.len;
 }
 
-// Which fields are marked, what is told above which, and the notes that have no field.
+// Which fields are marked, what is printed above which, and the notes that have no field.
 function placed({ octets, verdict, fields, fault, notes, section }) {
     const marked = new Set(), above = new Map(), left = [...notes];
     if (verdict.verdict === C.RESET) {
@@ -357,7 +357,7 @@ function placed({ octets, verdict, fields, fault, notes, section }) {
     return { marked, above, left };
 }
 
-// Whether a field is marked, and why, where that is told above it.
+// Whether a field is marked, and why, where that is printed above it.
 function markOf(message, field) {
     return { isMarked: message.told.marked.has(field), reason: message.told.above.get(field)?.reason ?? "" };
 }

@@ -77,7 +77,7 @@ func (message *Message) Communities() []uint32 {
 	return communities
 }
 
-// LargeCommunities gives those of LARGE_COMMUNITY, each at its first place alone (RFC 8092).
+// LargeCommunities gives those of LARGE_COMMUNITY, each only where it occurs first (RFC 8092).
 func (message *Message) LargeCommunities() [][3]uint32 {
 	value, is := message.first(32)
 	if !is {
@@ -110,7 +110,7 @@ func (why Why) String() string {
 
 // Note is about an attribute that is discarded, or for which an UPDATE is treated as a withdrawal.
 type Note struct {
-	At   int // where its flags stand in the message; 0 for one that is missing
+	At   int // the offset of its flags in the message; 0 for one that is missing
 	Type uint8
 	Why  Why
 }
@@ -159,7 +159,7 @@ type Open struct {
 	Capabilities  []Capability
 }
 
-// Open gives what an OPEN that is accepted says; nil of any other message.
+// Open gives what an accepted OPEN says; nil for any other message.
 func (message *Message) Open() *Open {
 	var it C.ristulva_open_fields
 	at, size := octetsOf(message.octets)

@@ -37,8 +37,8 @@ func (decoder *Decoder) Close() error {
 	return nil
 }
 
-// Feed takes all octets of a piece, and gives the messages that are whole by them. The last one may end the session: behind it nothing is read, and Feed
-// answers ErrReset.
+// Feed consumes all octets of a piece, and gives the messages that are whole with them. The last one may end the session: after it nothing is read, and
+// Feed answers ErrReset.
 func (decoder *Decoder) Feed(piece []byte) ([]*Message, error) {
 	decoder.lock.Lock()
 	defer decoder.lock.Unlock()
@@ -64,7 +64,7 @@ func (decoder *Decoder) Feed(piece []byte) ([]*Message, error) {
 	}
 }
 
-// The next message, and how many octets were taken.
+// The next message, and the number of octets consumed.
 func (decoder *Decoder) pull(piece []byte) (*Message, C.size_t) {
 	var octets page
 	var data [dataMax]byte
@@ -85,7 +85,7 @@ func (decoder *Decoder) pull(piece []byte) (*Message, C.size_t) {
 	return message, taken
 }
 
-// Held is how many octets of an incomplete message the decoder holds.
+// Held is the number of octets of an incomplete message that the decoder holds.
 func (decoder *Decoder) Held() (int, error) {
 	decoder.lock.Lock()
 	defer decoder.lock.Unlock()

@@ -8,22 +8,22 @@ import (
 	"unsafe"
 )
 
-// Facts are what everybody asks of an UPDATE that is accepted, of the attributes that are kept alone. A pointer is nil, and an address isn't valid, where
+// Facts are common attributes of an UPDATE that is accepted, only of those that are kept. A pointer is nil, and an address isn't valid, where
 // there is none.
 type Facts struct {
 	Origin          *uint8     // ORIGIN: OriginIGP to OriginIncomplete
 	NextHop         netip.Addr // NEXT_HOP
 	MPNextHop       netip.Addr // the next hop of MP_REACH_NLRI, for IPv6 its global address
-	LinkLocal       netip.Addr // the link-local address behind that one (RFC 2545)
+	LinkLocal       netip.Addr // the link-local address after that one (RFC 2545)
 	MED             *uint32
 	LocalPref       *uint32
 	AtomicAggregate bool
 	Aggregator      *Aggregator
-	// OriginAS is the AS that the route came from: the last number of the path that AS_PATH and AS4_PATH give together (RFC 6793, section 4.2.3). Nil where
+	// OriginAS is the origin AS of the route: the last number of the path that AS_PATH and AS4_PATH give together (RFC 6793, section 4.2.3). Nil where
 	// that is empty or ends in a set (RFC 6811, section 2).
 	OriginAS                                       *uint32
-	ASPath, AS4Path, Communities, LargeCommunities []byte // values as they lie there; nil where the attribute is discarded
-	Unrecognised                                   int    // how many attributes of types that aren't recognised
+	ASPath, AS4Path, Communities, LargeCommunities []byte // values as in the message; nil where the attribute is discarded
+	Unrecognised                                   int    // the number of attributes of types that aren't recognised
 }
 
 // Aggregator is what AGGREGATOR and AS4_AGGREGATOR give together (RFC 6793, section 4.2.3).
@@ -74,7 +74,7 @@ func (facts *Facts) take(hops C.ristulva_next_hops) {
 	}
 }
 
-// NextHops are NEXT_HOP, and the next hop of MP_REACH_NLRI: those that there are.
+// NextHops are NEXT_HOP, and the next hop of MP_REACH_NLRI: those that are present.
 func (facts *Facts) NextHops() (hops []netip.Addr) {
 	for _, hop := range []netip.Addr{facts.NextHop, facts.MPNextHop} {
 		if hop.IsValid() {
@@ -112,9 +112,9 @@ func (message *Message) Facts() *Facts {
 	return facts
 }
 
-// Agree gives what two speakers agree on, of whose OPENs the octets begin with one each: the context of their session, and its Hold Time in seconds, 0
-// for none; as `bgp show --opens` finds it. ErrIncomplete or ErrRefused: one of them is no OPEN that is accepted. Neither is refused for what it says:
-// who reads on refuses a direction for which both agree on path identifiers (capability 69; RFC 7911), since its routes aren't read here.
+// Agree gives what two speakers agree on, given octets that begin with the OPEN of each: the context of their session, and its Hold Time in seconds, 0
+// for none; as `bgp show --opens` finds it. ErrIncomplete or ErrRefused: one of them isn't an accepted OPEN. Neither is refused for what it says:
+// refuse a direction for which both agree on path identifiers (capability 69; RFC 7911) before reading on, since its routes aren't supported here.
 func Agree(ours, theirs []byte) (Context, uint16, error) {
 	var said C.ristulva_context
 	var hold C.uint16_t

@@ -70,7 +70,7 @@ func TestFacts(t *testing.T) {
 	}
 }
 
-// What isn't there, or is discarded, isn't given; nor is anything of what isn't accepted.
+// What is missing, or discarded, isn't given; nor is anything of what isn't accepted.
 func TestNoFacts(t *testing.T) {
 	external := Context{AS4: true}
 	octets := updateOf(someOrigin + "40020c01010000fde901010000fdea 400304c0000201 40050400000064 c0110602010000fde9")

@@ -5,7 +5,7 @@ import "C"
 
 import "unsafe"
 
-// FieldKind is what a field is. A prefix's kind says its family and where it stands.
+// FieldKind is what a field is. A prefix's kind says its family and its field.
 type FieldKind uint8
 
 const (
@@ -33,7 +33,7 @@ const (
 	FieldAttributeLength                       // the length of a path attribute: one octet, or two where the Extended Length bit is set
 	FieldOrigin                                // the value of ORIGIN: one octet
 	FieldSegmentType                           // the type of a path's segment: one octet
-	FieldSegmentCount                          // how many AS numbers a path's segment has: one octet
+	FieldSegmentCount                          // the number of AS numbers in a path's segment: one octet
 	FieldAddress                               // an IPv4 address, of NEXT_HOP or an aggregator: four octets
 	FieldMed                                   // the value of MULTI_EXIT_DISC: four octets
 	FieldLocalPref                             // the value of LOCAL_PREF: four octets
@@ -52,7 +52,7 @@ const (
 	FieldErrorCode                             // A NOTIFICATION's error code: one octet (RFC 4271, section 4.5)
 	FieldErrorSubcode                          // A NOTIFICATION's error subcode: one octet
 	FieldData                                  // A NOTIFICATION's data
-	FieldUnread                                // what can't be read as what ought to stand there, up to the end of what encloses it: the capability, parameter, attribute, field or message
+	FieldUnread                                // what can't be read as what should be there, up to the end of what encloses it: the capability, parameter, attribute, field or message
 )
 
 // String gives the name that `bgp explain` prints.
@@ -89,7 +89,7 @@ func (message *Message) Fields() []Field {
 	return fields
 }
 
-// Fault tells for which octets of the message the session ends: where they begin, and how many they are; none where it doesn't end.
+// Fault gives the octets of the message for which the session ends: their offset and length; none where it doesn't end.
 func (message *Message) Fault() (at, length int) {
 	said := message.context.said()
 	octets, size := octetsOf(message.octets)
@@ -98,7 +98,8 @@ func (message *Message) Fault() (at, length int) {
 	return int(span.at), int(span.len)
 }
 
-// FaultSection is the section of an RFC by which the session ends, as `bgp explain` prints it; "own rule" where no RFC has it so. Empty where it doesn't end.
+// FaultSection is the section of an RFC by which the session ends, as `bgp explain` prints it; "own rule" where no RFC has the rule. Empty where it
+// doesn't end.
 func (message *Message) FaultSection() string {
 	said := message.context.said()
 	octets, size := octetsOf(message.octets)

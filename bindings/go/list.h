@@ -61,7 +61,7 @@ static inline size_t list_withdrawn(const uint8_t *octets, size_t len, const ris
     return count;
 }
 
-/* The segments of a path, and in `numbers` the AS numbers of one after the other; `counts` has how many each has. */
+/* The segments of a path, and in `numbers` the AS numbers of all in sequence; `counts` has the number of each. */
 static inline size_t list_path(const uint8_t *octets, size_t len, ristulva_span value, uint8_t wide, uint8_t *kinds, size_t *counts,
                                uint32_t *numbers) {
     ristulva_segments cursor = {value.at, value.at + value.len, wide, 0};

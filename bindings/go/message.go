@@ -39,7 +39,7 @@ type Verdict uint8
 const (
 	OpenMessage  Verdict = iota + 1 // an OPEN is accepted
 	Update                          // an UPDATE is accepted
-	Notification                    // a NOTIFICATION came: the peer has ended the session
+	Notification                    // a NOTIFICATION was received: the peer has ended the session
 	Keepalive                       // a KEEPALIVE is accepted
 	Withdraw                        // an UPDATE is treated as a withdrawal of all its routes (RFC 7606, section 2)
 	Reset                           // the session ends, by a NOTIFICATION to the peer
@@ -85,7 +85,7 @@ func judged(context Context, octets []byte, place uint64) (*Message, error) {
 	return message, nil
 }
 
-// Messages gives the messages of a stream, up to the first that ends the session, and the octets behind them of an incomplete one, or behind a reset.
+// Messages gives the messages of a stream, up to the first that ends the session, and the octets after them, of an incomplete one, or after a reset.
 func Messages(context Context, octets []byte) (messages []*Message, rest []byte) {
 	rest = octets
 	for {
@@ -104,7 +104,7 @@ func Messages(context Context, octets []byte) (messages []*Message, rest []byte)
 // Octets are those of the message, or of the header that has a fault.
 func (message *Message) Octets() []byte { return cloned(message.octets) }
 
-// Place is where the message stands in its stream.
+// Place is the message's offset in its stream.
 func (message *Message) Place() uint64 { return message.place }
 
 // Context is the one that the message was judged in.
@@ -119,7 +119,7 @@ type Said struct {
 	Data          []byte
 }
 
-// Notification is the one that came, or that is to be sent where the session ends; nil else.
+// Notification is the one that was received, or that is to be sent where the session ends; nil else.
 func (message *Message) Notification() *Said {
 	switch message.Verdict() {
 	case Notification, Reset:

@@ -75,7 +75,7 @@ type capture struct {
 	shown   string
 }
 
-// All that a message tells.
+// All that a message reports.
 func told(it *Message) []any {
 	return []any{
 		it.Place(), it.Octets(), it.Verdict(), it.Notification(), it.String(), it.Announced(), it.Withdrawn(), it.Attributes(), it.ASPath(),

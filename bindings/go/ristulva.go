@@ -8,7 +8,7 @@
 //		}
 //	}
 //
-// It is linked with libristulva. No octet of a caller's slice is kept behind a call. Values are safe for concurrent reading; a Decoder and a Session may
+// It is linked with libristulva. No octet of a caller's slice is kept after a call. Values are safe for concurrent reading; a Decoder and a Session may
 // be shared, and each call takes its turn.
 package ristulva
 
@@ -22,7 +22,7 @@ import (
 	"unsafe"
 )
 
-// Errors of calls; errors.Is tells them apart.
+// Errors of calls; errors.Is distinguishes them.
 var (
 	ErrMemory     = errors.New("ristulva: an allocation failed")
 	ErrTooLong    = errors.New("ristulva: too long a body")
@@ -69,10 +69,10 @@ func failed(status C.ristulva_status) error {
 	return fmt.Errorf("ristulva: status %d", uint32(status))
 }
 
-// What stands for octets where there are none.
+// Used as octets where there are none.
 var nothing [1]byte
 
-// A pointer to octets, never nil, and how many there are.
+// A pointer to octets, never nil, and their number.
 func octetsOf(octets []byte) (*C.uint8_t, C.size_t) {
 	if len(octets) == 0 {
 		return (*C.uint8_t)(unsafe.Pointer(&nothing[0])), 0

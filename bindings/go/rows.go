@@ -12,10 +12,10 @@ import (
 // RowsMin is the least room for rows: the most that one message gives.
 const RowsMin = C.RISTULVA_BATCH
 
-// ErrRoom tells that there is room for less than RowsMin rows.
+// ErrRoom: there is room for less than RowsMin rows.
 var ErrRoom = errors.New("ristulva: there is less room than one message may need")
 
-// Place is where a value lies in its message; both are 0 where there is none.
+// Place is the span of a value in its message; both are 0 where there is none.
 type Place struct {
 	At, Len uint16
 }
@@ -23,14 +23,14 @@ type Place struct {
 // RouteRow is a route of a stream. It lies in memory as the library writes it.
 type RouteRow struct {
 	Message          uint64 // where its message begins, in the octets that were read
-	OriginAS         uint32 // the AS that it came from, as Facts have it, where HasOriginAS is set
-	ASPath           Place  // where these values lie, of what is announced
+	OriginAS         uint32 // its origin AS, as in Facts, where HasOriginAS is set
+	ASPath           Place  // the spans of these values, where it is announced
 	AS4Path          Place
 	Communities      Place
 	LargeCommunities Place
 	AFI              uint16 // of its prefix: 1 for IPv4, 2 for IPv6
 	Length           uint8
-	Address          [16]byte // zeros behind the four octets of an IPv4 address
+	Address          [16]byte // zeros after the four octets of an IPv4 address
 	_                [1]byte
 	Announced        bool    // else it is withdrawn
 	Verdict          Verdict // that of its message: Update or Withdraw
@@ -50,7 +50,7 @@ func (row *RouteRow) Route() Route {
 type NumberRow struct {
 	Message uint64
 	Number  uint32
-	Segment uint16 // in which segment of the path it stands, from 0
+	Segment uint16 // the index of its segment in the path, from 0
 	Set     bool   // whether that is an AS_SET
 	_       [1]byte
 }
@@ -79,7 +79,7 @@ var (
 	_ = [1]struct{}{}[unsafe.Offsetof(RouteRow{}.Announced)-unsafe.Offsetof(C.ristulva_route_row{}.announced)]
 )
 
-// Has the library write rows of a kind: how many rows it wrote, and how many octets it took.
+// Has the library write rows of a kind: the number of rows it wrote, and of octets it consumed.
 func written[Row any](kind C.int, context Context, octets []byte, rows []Row) (int, int, error) {
 	if len(rows) < RowsMin {
 		return 0, 0, ErrRoom
@@ -94,12 +94,12 @@ func written[Row any](kind C.int, context Context, octets []byte, rows []Row) (i
 	return int(count), int(taken), failed(status)
 }
 
-// Routes writes the routes of a stream, message by message, to the beginning of rows: of as many whole messages as there is room for. It tells how many
-// rows it wrote, and how many octets these messages have, also those without a row; where all fitted these are all octets, else the caller goes on behind
-// them. It keeps none of the two slices. Routes of a family that isn't in use aren't given: Message.Routes tells whether there are some.
+// Routes writes the routes of a stream, message by message, to the beginning of rows: for as many whole messages as fit. It answers how many
+// rows it wrote, and the total length of these messages, also those without a row; where all fitted these are all octets, else the caller continues after
+// them. It keeps none of the two slices. Routes of a family that isn't in use aren't given: Message.Routes reports whether there are some.
 //
-// ErrIncomplete: behind taken stands an incomplete message. ErrReset: the message there, or its header, resets the session. What stands before it was
-// written in both. ErrRoom: there is room for less than RowsMin rows, and nothing is done.
+// ErrIncomplete: an incomplete message is at taken. ErrReset: the message there, or its header, resets the session. What precedes it was
+// written in both cases. ErrRoom: there is room for less than RowsMin rows, and nothing is done.
 func Routes(context Context, octets []byte, rows []RouteRow) (count, taken int, err error) {
 	return written(C.ROUTES, context, octets, rows)
 }

@@ -25,7 +25,7 @@ var (
 	stream   = bytes.Join([][]byte{keepalive, firstOf, keepalive, secondOf}, nil)
 )
 
-// All rows of a kind, read with so much room at a time, how many octets were taken, and the error that it ended with.
+// All rows of a kind, read with this room at a time, the number of octets consumed, and the error that it ended with.
 func all[Row any](octets []byte, room int, read func(Context, []byte, []Row) (int, int, error)) (found []Row, at int, err error) {
 	rows := make([]Row, room)
 	for {
@@ -87,7 +87,7 @@ func TestValueRows(t *testing.T) {
 	}
 }
 
-// What was read before a message that is cut off, or that resets the session, is there.
+// What was read before a message that is cut off, or that resets the session, is given.
 func TestRowsEnd(t *testing.T) {
 	header := append(bytes.Repeat([]byte{255}, 15), 254, 0, 19, 4)
 	for _, it := range []struct {

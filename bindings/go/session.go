@@ -33,7 +33,7 @@ const (
 	Failed           Event = 18
 )
 
-// State is where a session stands, as RFC 4273 numbers the states.
+// State is the state of a session, as RFC 4273 numbers them.
 type State uint8
 
 const (
@@ -62,23 +62,23 @@ const (
 	KeepaliveTimer
 )
 
-// Expired is the event that tells that the timer ran out.
+// Expired is the event that the timer expired.
 func (timer Timer) Expired() Event { return RetryExpired + Event(timer-RetryTimer) }
 
 // Do is a kind of action.
 type Do uint8
 
 const (
-	Seek     Do = iota + 1 // seek a connection to the peer: Connected or Failed tells what came of it
-	Close                  // close the connection, or give up the one that is sought
+	Seek     Do = iota + 1 // seek a connection to the peer: Connected or Failed reports the result
+	Close                  // close the connection, or abandon the attempt
 	SendOpen               // send Message; so with the next two
 	SendKeepalive
 	SendNotification
-	Arm            // start Timer, or start it anew, for After
+	Arm            // start or restart Timer, for After
 	Disarm         // stop Timer
-	Announce       // the UPDATE that was heard announces and withdraws routes
-	WithdrawUpdate // treat-as-withdraw: all routes of the UPDATE that was heard (RFC 7606, section 2)
-	Flush          // all routes of the peer are gone with the session
+	Announce       // the received UPDATE announces and withdraws routes
+	WithdrawUpdate // treat-as-withdraw: all routes of the received UPDATE (RFC 7606, section 2)
+	Flush          // the session has ended, and all routes of the peer with it
 	SendUpdate     // send Message
 )
 
@@ -125,7 +125,7 @@ func (session *Session) Close() error {
 	return nil
 }
 
-// The actions that C tells.
+// The actions that C reports.
 func asked(told *C.ristulva_actions, message []byte) []Action {
 	actions := make([]Action, told.count)
 	for i := range actions {
@@ -138,7 +138,7 @@ func asked(told *C.ristulva_actions, message []byte) []Action {
 	return actions
 }
 
-// Event tells what happens, and gives what is to be done, in this order. What doesn't belong in the session's state does nothing.
+// Event passes an event to the session, and gives what is to be done, in this order. What doesn't belong in the session's state does nothing.
 func (session *Session) Event(event Event) ([]Action, error) {
 	session.lock.Lock()
 	defer session.lock.Unlock()
@@ -152,15 +152,15 @@ func (session *Session) Event(event Event) ([]Action, error) {
 	return asked(&told, message.first(written)), nil
 }
 
-// Heard is what a session heard.
+// Heard is what a session received.
 type Heard struct {
 	Message *Message // or the header with a fault; its verdict is that of the session in its state
-	Taken   int      // how many of the octets were taken
+	Taken   int      // the number of octets consumed
 	Actions []Action
 }
 
-// Hear lets the session hear the message that octets of the peer begin with. It answers ErrIncomplete where they are less than one, and ErrState where no
-// connection stands; nothing has changed then. Its host drops what was taken from what it received, and calls again.
+// Hear passes the message that octets of the peer begin with to the session. It answers ErrIncomplete where they are less than one, and ErrState where no
+// connection is up; nothing has changed then. Its host drops what was consumed from what it received, and calls again.
 func (session *Session) Hear(octets []byte) (*Heard, error) {
 	session.lock.Lock()
 	defer session.lock.Unlock()
@@ -178,9 +178,9 @@ func (session *Session) Hear(octets []byte) (*Heard, error) {
 	return &Heard{messageOf(heard, octets[:heard.len], sent, context), int(heard.len), asked(&told, sent)}, nil
 }
 
-// The message of what was heard, which the message `sent` answers.
+// The message that was received, which the message `sent` answers.
 func messageOf(heard C.ristulva_heard, octets, sent []byte, context Context) *Message {
-	const front = 21 // the octets in front of a NOTIFICATION's data
+	const front = 21 // the length of a NOTIFICATION before its data
 	message := &Message{octets: append([]byte{}, octets...), context: context}
 	message.found = C.ristulva_verdict{
 		verdict: heard.heard, kind: C.uint8_t(octets[headerLen-1]), code: heard.code, subcode: heard.subcode, len: heard.len, parts: heard.parts,
@@ -198,7 +198,7 @@ func messageOf(heard C.ristulva_heard, octets, sent []byte, context Context) *Me
 	return message
 }
 
-// State tells where the session stands.
+// State gives the session's state.
 func (session *Session) State() (State, error) {
 	session.lock.Lock()
 	defer session.lock.Unlock()
@@ -222,7 +222,7 @@ func (session *Session) Agreed() (Context, time.Duration, error) {
 	return session.agreed()
 }
 
-// Peer is what a peer said of itself in its OPEN.
+// Peer has the parameters of a peer's OPEN.
 type Peer struct {
 	AS            uint32
 	ID            netip.Addr
@@ -231,7 +231,7 @@ type Peer struct {
 	Codes         []byte // of all its capabilities, each once, rising
 }
 
-// Peer gives what the peer said of itself: ErrState as Agreed has it.
+// Peer gives the parameters of the peer's OPEN: ErrState as for Agreed.
 func (session *Session) Peer() (*Peer, error) {
 	session.lock.Lock()
 	defer session.lock.Unlock()

@@ -9,7 +9,7 @@ import (
 	"time"
 )
 
-// A session, and what came for it.
+// A session, and what arrived for it.
 type side struct {
 	t       *testing.T
 	session *Session

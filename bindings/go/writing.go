@@ -5,7 +5,7 @@ import "C"
 
 import "unsafe"
 
-// A place for a message.
+// A buffer for a message.
 type page [MessageMax]byte
 
 func (page *page) at() *C.uint8_t { return (*C.uint8_t)(unsafe.Pointer(&page[0])) }
@@ -46,24 +46,24 @@ func Reconcile(context Context, body []byte) ([]byte, error) {
 type Ends uint8
 
 const (
-	HandedOn     Ends = iota // it doesn't: the message is handed on, or what stands for it is
+	HandedOn     Ends = iota // it doesn't: the message is passed on, or its replacement is
 	EndsReset                // the message is answered by a NOTIFICATION
 	EndsLateOpen             // an OPEN that isn't the first message
 	EndsNoFamily             // an OPEN that offers families, and neither IPv4 nor IPv6 unicast
 )
 
-// Cleaned is what came of a message that is cleaned.
+// Cleaned is the result of cleaning a message.
 type Cleaned struct {
-	Octets       []byte // what is handed on of it: a whole message in its one written form, none where the stream ends
+	Octets       []byte // what is passed on of it: a whole message in its one written form, none where the stream ends
 	Ends         Ends
 	Discarded    int // attributes of an UPDATE that is accepted which are discarded
 	LeftOut      int // other ones, which are left out by their types
 	Capabilities int // capabilities of an OPEN that are left out
 }
 
-// Clean gives what may be handed on of the message to a hearer, well formed whatever came: one message, or up to three of an UPDATE, the routes that are
-// gone, those of NLRI, those of MP_REACH_NLRI. Attributes of unrecognised types among `types` are left out;
-// `first` is whether the message is the first one of its stream.
+// Clean gives what may be passed on of the message to a receiver, well formed whatever arrived: one message, or up to three of an UPDATE: withdrawn
+// routes, those of NLRI, those of MP_REACH_NLRI. Attributes of unrecognised types among `types` are left out; `first` is whether the message is the first
+// one of its stream.
 func (message *Message) Clean(first bool, types ...byte) (Cleaned, error) {
 	var written [PartsMax]byte
 	var count C.size_t

@@ -38,7 +38,7 @@ def octets_of(name):
 
 
 def told(it):
-    """All that a message tells."""
+    """All that a message reports."""
     return it.place, it.octets, bytes(it.found), it.data, str(it), it.notification, list(map(str, it.announced())), list(map(str, it.withdrawn()))
 
 
@@ -138,7 +138,7 @@ class CutOff(unittest.TestCase):
     whole = [told(it) for it in ristulva.messages(b"".join(pieces), CONTEXT)]
 
     def fed(self, decoder, found, cut):
-        """Feeds all pieces, each again where it wasn't taken. Whether a call was cut off."""
+        """Feeds all pieces, each again where it wasn't consumed. Whether a call was interrupted."""
         fed, was_cut, kept = 0, False, sys.gettrace()
         for piece in self.pieces:
             fed += len(piece)

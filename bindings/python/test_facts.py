@@ -49,7 +49,7 @@ class Facts(unittest.TestCase):
         self.assertEqual(facts, ristulva.judge(it.octets, TWO).facts())
 
     def test_nothing(self):
-        """What isn't there, or is discarded, is None; so are the facts of what isn't accepted."""
+        """What is missing, or discarded, is None; so are the facts of what isn't accepted."""
         external = ristulva.Context(as4=True)
         it = ristulva.judge(update(ORIGIN + "40020c01010000fde901010000fdea 400304c0000201 40050400000064 c0110602010000fde9"), external)
         facts = it.facts()

@@ -1,4 +1,4 @@
-"""The fields of messages and the places of faults: values by hand, and the captures of examples/."""
+"""The fields of messages and the octets of faults: values by hand, and the captures of examples/."""
 
 import pathlib
 import unittest

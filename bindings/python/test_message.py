@@ -43,7 +43,7 @@ class Values(unittest.TestCase):
     update = ristulva.judge(message(2, BODY), context)
 
     def test_equal(self):
-        """Octets, context and place make a message, by what it is judged as."""
+        """Octets, context and offset make a message, by what it is judged as."""
         self.assertEqual(self.update, ristulva.judge(message(2, BODY), self.context))
         self.assertEqual(hash(self.update), hash(ristulva.judge(message(2, BODY), self.context)))
         made = ((BODY, ristulva.Context(), 0), (BODY, self.context, 19), (bytes(4), self.context, 0))
@@ -58,7 +58,7 @@ class Values(unittest.TestCase):
         self.assertEqual(repr(ristulva.judge(MARKER + bytes.fromhex("001204"), self.context, 7)), "<ristulva.Message: reset, 19 octets at 7>")
 
     def test_pickled(self):
-        """A message comes back as it was, also a header with a fault, and what a session judged by its state."""
+        """A message is restored unchanged, also a header with a fault, and what a session judged by its state."""
         with ristulva.Session(ristulva.Config(65001, 65002, "192.0.2.1")) as session:
             session.event(ristulva.Event.START)
             session.event(ristulva.Event.CONNECTED)
@@ -97,7 +97,7 @@ class Values(unittest.TestCase):
             self.assertEqual([it.category for it in found], told)
 
     def test_incomplete(self):
-        """A stream that ends inside a message is told; one that ends behind a message isn't, nor what stands behind a reset."""
+        """A stream that ends inside a message is reported; one that ends after a message isn't, nor what follows a reset."""
         whole, faulty = message(2, BODY) + message(4, b""), message(1, bytes.fromhex("03fde80000c000020100"))
         for octets, rest in ((whole, 0), (b"", 0), (faulty + whole[:30], 0), (whole + whole[:30], 30), (whole[:1], 1)):
             with warnings.catch_warnings(record=True) as told:
@@ -238,7 +238,7 @@ class Updates(unittest.TestCase):
         self.assertEqual(it.large_communities(), [])
 
     def test_large_communities(self):
-        """Each at its first place alone (RFC 8092, section 3), as the lines have them."""
+        """Each only where it occurs first (RFC 8092, section 3), as in the lines."""
         one, two = "0000fde80000000100000002", "0000fde80000000100000003"
         body = bytes.fromhex("0000" + "0057" + BODY.hex()[8:-18] + "c0203c" + one + two + one + two + two + "080a")
         it = ristulva.judge(message(2, body), self.context)
@@ -254,7 +254,7 @@ class Updates(unittest.TestCase):
         self.assertEqual((it.verdict, it.notification), ("reset", (1, 2, b"\x00\x12")))
 
     def test_faulty_header(self):
-        """It has the octets of the header, whatever stands behind it, and its line."""
+        """It has the octets of the header, whatever follows it, and its line."""
         header = MARKER + bytes.fromhex("001204")
         for rest in (b"", b"more", bytes(5000)):
             it = ristulva.judge(header + rest, self.context)
@@ -265,18 +265,18 @@ class Updates(unittest.TestCase):
         self.assertEqual((it.verdict, it.notification), ("notification", (6, 2, b"\x03bye")))
 
     def test_encode(self):
-        """ORIGIN behind AS_PATH, its length in two octets, is written in front of it in one."""
+        """ORIGIN after AS_PATH, its length in two octets, is written before it, in one."""
         mixed = bytes.fromhex("0000" + "0020" + "40020a02020000fde800030d40" + "5001000100" + "400304c0000201" + "c0080400010002" + "080a")
         self.assertEqual(ristulva.encode(mixed, self.context), message(2, BODY))
         self.assertEqual(ristulva.encode(BODY, self.context), message(2, BODY))
 
     def test_narrow(self):
-        """23456 stands for 200000, and AS4_PATH has it (RFC 6793, section 4.2.2)."""
+        """23456 replaces 200000, and AS4_PATH has it (RFC 6793, section 4.2.2)."""
         body = bytes.fromhex("0000" + "0028" + "40010100" + "4002060202fde85ba0" + "400304c0000201" + "c0080400010002" + "c0110a02020000fde800030d40" + "080a")
         self.assertEqual(ristulva.narrow(BODY, self.context), message(2, body))
 
     def test_reconcile(self):
-        """200000 stands in AS4_PATH, and comes back in the place of 23456 (RFC 6793, section 4.2.3)."""
+        """200000 is in AS4_PATH, and replaces 23456 again (RFC 6793, section 4.2.3)."""
         body = bytes.fromhex("0000" + "0028" + "40010100" + "4002060202fde85ba0" + "400304c0000201" + "c0080400010002" + "c0110a02020000fde800030d40" + "080a")
         self.assertEqual(ristulva.reconcile(body, self.context), message(2, BODY))
 
@@ -307,8 +307,8 @@ class Cleaning(unittest.TestCase):
         return message(2, len(withdrawn).to_bytes(2, "big") + withdrawn + len(attributes).to_bytes(2, "big") + attributes + nlri)
 
     def becomes(self, octets, wanted, counts, **how):
-        """What is handed on of octets is wanted, without so many attributes that are discarded, so many that are left out, and so many capabilities;
-        each message of wanted is handed on as it is."""
+        """What is passed on of octets is wanted, without this many attributes that are discarded, this many that are left out, and this many capabilities;
+        each message of wanted is passed on unchanged."""
         self.assertEqual(ristulva.judge(octets, self.context).clean(**how), ristulva.Cleaned(wanted, None, *counts))
         for part in ristulva.messages(wanted, self.context):
             self.assertEqual(part.clean(**how), ristulva.Cleaned(part.octets, None, 0, 0, 0))
@@ -338,12 +338,12 @@ class Cleaning(unittest.TestCase):
             self.assertRaises((TypeError, ValueError), ristulva.judge(it, self.context).clean, types=types)
 
     def test_nothing_left(self):
-        """That is no End-of-RIB, but what is one stays one (RFC 4724, section 2)."""
+        """That isn't an End-of-RIB, but what is one stays one (RFC 4724, section 2)."""
         self.becomes(self.update("c0140101", ""), message(4, b""), (0, 1, 0), types=[20])
         self.becomes(self.update("", ""), self.update("", ""), (0, 0, 0), types=[20])
 
     def test_open(self):
-        """IPv4 unicast, route refresh, AS 131073 and IPv4 unicast: two go on, in one parameter."""
+        """IPv4 unicast, route refresh, AS 131073 and IPv4 unicast: two are passed on, in one parameter."""
         fixed = bytes.fromhex("04" + "5ba0" + "005a" + "c0000202")
         field = bytes.fromhex("0214" + "010400010001" + "0200" + "410400020001" + "010400010001")
         wanted = bytes.fromhex("020c" + "010400010001" + "410400020001")
@@ -359,7 +359,7 @@ class Cleaning(unittest.TestCase):
         self.ends(MARKER + bytes.fromhex("001204"), "reset", first=True)
 
     def test_captures(self):
-        """What is handed on of each capture is accepted without a note, and is handed on as it is."""
+        """What is passed on of each capture is accepted without a note, and is passed on unchanged."""
         for path in sorted(EXAMPLES.glob("*.hex")):
             for it in ristulva.messages(bytes.fromhex(path.read_text()), self.context):
                 with self.subTest(path.name):

@@ -33,13 +33,13 @@ LEFT = [Close(), Disarm(Timer.HOLD), Disarm(Timer.KEEPALIVE), Flush()]
 
 
 class Side:
-    """A session, and what came for it."""
+    """A session, and what arrived for it."""
 
     def __init__(self, config):
         self.session, self.held, self.peer = Session(config), b"", None
 
     def done(self, actions):
-        """What is sent comes to the peer."""
+        """What is sent arrives at the peer."""
         self.peer.held += b"".join(it.message for it in actions if isinstance(it, Send))
         return actions
 
@@ -47,7 +47,7 @@ class Side:
         return self.done(self.session.event(event))
 
     def hears(self):
-        """Hears the first message that came; None where there is none."""
+        """Receives the first message that arrived; None where there is none."""
         heard = self.session.hear(self.held)
         if heard:
             self.held = self.held[heard.taken :]
@@ -111,7 +111,7 @@ class Life(unittest.TestCase):
         self.assertEqual(other.session.peer, ristulva.Peer(65001, LOCAL.identifier, 30, True, True, True, [1, 65]))
 
     def test_inside(self):
-        """A session with a peer of the same AS, for IPv6 alone, with AS numbers of two octets."""
+        """A session with a peer of the same AS, for IPv6 alone, with 2-octet AS numbers."""
         one, _ = established(*(Config(65001, 65001, it, as4=False, ip4=False, ip6=True) for it in ("192.0.2.1", "192.0.2.2")))
         self.assertEqual(one.session.context, ristulva.Context(internal=True, ip6=True))
         self.assertEqual(one.session.peer, ristulva.Peer(65001, ipaddress.IPv4Address("192.0.2.2"), 90, False, False, True, [1]))
@@ -132,7 +132,7 @@ class Life(unittest.TestCase):
             self.assertEqual(side.session.event(Event.STOP), [])
 
     def test_sought_again(self):
-        """Before it stands a connection is sought again when the Retry Timer has run out."""
+        """Before it is up a connection is sought again when the Retry Timer has expired."""
         one = Side(LOCAL)
         one.peer = Side(REMOTE)
         one.happens(Event.START)
@@ -147,7 +147,7 @@ class Life(unittest.TestCase):
         one, other = established()
         self.assertEqual(one.happens(Event.KEEPALIVE_EXPIRED), [Send(message(4)), Arm(Timer.KEEPALIVE, 10)])
         self.assertEqual(one.happens(Timer.RETRY.expired), [])
-        # A timer that has run out doesn't run.
+        # A timer that has expired doesn't run.
         self.assertEqual(one.happens(Timer.HOLD.expired), [notification(4, 0), *[it for it in LEFT if it != Disarm(Timer.HOLD)]])
         self.assertEqual(other.happens(Event.FAILED), LEFT[1:])
 
@@ -191,7 +191,7 @@ class Updates(unittest.TestCase):
         self.assertEqual(it.first(17).value, bytes.fromhex("0202000111700000fde9"))
 
     def test_withdrawal(self):
-        """A mandatory attribute is missing (RFC 7606, section 3, item d): the session stands."""
+        """A mandatory attribute is missing (RFC 7606, section 3, item d): the session stays up."""
         _, other = established()
         other.held = message(2, WITHOUT_HOP)
         heard = other.hears()
@@ -200,7 +200,7 @@ class Updates(unittest.TestCase):
         self.assertIs(other.session.state, State.ESTABLISHED)
 
     def test_pieces(self):
-        """Less than a message changes nothing, and what stands behind one has no effect."""
+        """Less than a message changes nothing, and what follows one is ignored."""
         _, other = established()
         octets = message(2, ANNOUNCEMENT) + message(9)
         size = 19 + len(ANNOUNCEMENT)
@@ -219,7 +219,7 @@ class Updates(unittest.TestCase):
                 one.session.send(body)
 
     def test_state_first(self):
-        """In all states but Established no body is looked at."""
+        """In all states but Established no body is read."""
         confirming, other = connected()
         confirming.hears()
         self.assertIs(confirming.session.state, State.OPEN_CONFIRM)
@@ -266,7 +266,7 @@ class Faults(unittest.TestCase):
 
 
     def test_changed_octets(self):
-        """Whatever one octet is, a session that stands hears what `judge` finds, and ends exactly where a NOTIFICATION came or is sent."""
+        """Whatever one octet is, a session that is up receives what `judge` finds, and ends exactly where a NOTIFICATION is received or sent."""
         for octets in (message(2, ANNOUNCEMENT), message(2, WITHOUT_HOP), notification(6, 2).message, message(4)):
             for at, octet in itertools.product(range(len(octets)), (0, 1, 0xff)):
                 changed = octets[:at] + bytes([octet]) + octets[at + 1 :]
@@ -280,7 +280,7 @@ class Faults(unittest.TestCase):
 
 
 def told(it):
-    """What a message tells; of one that ends the session no routes."""
+    """What a message reports; of one that ends the session no routes."""
     routes = [] if it.verdict == "reset" else [*it.announced(), *it.withdrawn()]
     return str(it), it.verdict, it.notification, it.found.kind, it.found.len, routes
 
@@ -351,7 +351,7 @@ class Ends(unittest.TestCase):
 class Documents(unittest.TestCase):
     @unittest.skipIf(sys.version_info < (3, 10), "it has a match")
     def test_program(self):
-        """The program of docs/C.md prints what stands there."""
+        """The program of docs/C.md prints what is shown there."""
         text = (pathlib.Path(__file__).resolve().parents[2] / "docs/C.md").read_text()
         program = text.split("```python\n")[1].split("```\n")[0]
         printed = []

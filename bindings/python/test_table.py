@@ -51,7 +51,7 @@ RESET = update(ORIGIN + "4002", nlri="21")  # a prefix of 33 bits (RFC 4271, sec
 
 
 def told(octets, context, **how):
-    """A table, and the kinds of warnings that came with it."""
+    """A table, and the kinds of warnings with it."""
     with warnings.catch_warnings(record=True) as found:
         warnings.simplefilter("always")
         table = ristulva.table(octets, context, **how)
@@ -80,7 +80,7 @@ class Rows(unittest.TestCase):
         self.assertEqual((table.taken, table.rest, table.reset, warned), (len(STREAM), 0, None, []))
 
     def test_places(self):
-        """The values of attributes of what is announced; none of what is withdrawn, nor of an attribute that isn't there."""
+        """The values of attributes of what is announced; none of what is withdrawn, nor of an attribute that is missing."""
         rows = ristulva.table(STREAM, FOUR).routes
         for name, value in (("as_path", PATH[6:]), ("communities", COMMUNITIES[6:]), ("large_communities", LARGE[6:])):
             octets = bytes.fromhex(value)
@@ -88,7 +88,7 @@ class Rows(unittest.TestCase):
         self.assertEqual(values(rows["as4_path"], "at", "len"), [(0, 0)] * 6)
 
     def test_values(self):
-        """Of the UPDATE that is accepted alone. A large community that stands twice is given once (RFC 8092, section 3)."""
+        """Only of the accepted UPDATE. A large community that occurs twice is given once (RFC 8092, section 3)."""
         table = ristulva.table(STREAM, FOUR)
         self.assertEqual(values(table.path_numbers, "message", "number", "segment", "set"), [(19, 65001, 0, False), (19, 200000, 0, False)])
         self.assertEqual(values(table.communities, "message", "value"), [(19, 0xFDE80001), (19, 0xFFFFFF01)])
@@ -96,7 +96,7 @@ class Rows(unittest.TestCase):
         self.assertIs(table.communities, table.communities)
 
     def test_path_of_two(self):
-        """What AS_PATH and AS4_PATH give together (RFC 6793, section 4.2.3): 23456 stands for numbers that need four octets."""
+        """What AS_PATH and AS4_PATH give together (RFC 6793, section 4.2.3): 23456 replaces numbers that need four octets."""
         path = "400208 0203 fde9 5ba0 5ba0" + "c0110a 0202 00030d40 00030d41"
         table = ristulva.table(update(ORIGIN + path + HOP, nlri="080a"), TWO)
         self.assertEqual(values(table.path_numbers, "number"), [65001, 200000, 200001])
@@ -104,7 +104,7 @@ class Rows(unittest.TestCase):
         self.assertEqual(values(table.routes["as4_path"], "len"), [10])
 
     def test_sets(self):
-        """A path that ends in a set has no AS that it came from (RFC 6811, section 2)."""
+        """A path that ends in a set has no origin AS (RFC 6811, section 2)."""
         path = "400210 0201 0000fde9 0102 0000fdea 0000fdeb"
         table = ristulva.table(update(ORIGIN + path + HOP, nlri="080a"), FOUR)
         self.assertEqual(values(table.path_numbers, "number", "segment", "set"), [(65001, 0, False), (65002, 1, True), (65003, 1, True)])
@@ -145,20 +145,20 @@ class Rows(unittest.TestCase):
 
 
 def starts(octets):
-    """The messages of a stream with their places."""
+    """The messages of a stream with their offsets."""
     return [(it.place, it) for it in ristulva.messages(octets, FOUR)]
 
 
 @unittest.skipUnless(HAS_NUMPY, "needs numpy")
 class Ends(unittest.TestCase):
     def test_incomplete(self):
-        """What was read before a message that is cut off is there."""
+        """What was read before a message that is cut off is given."""
         for rest in (FIRST[:-1], FIRST[:18], b"\xff"):
             table, warned = told(STREAM + rest, FOUR)
             self.assertEqual((table.routes.size, table.taken, table.rest, table.reset, warned), (6, len(STREAM), len(rest), None, [ristulva.Incomplete]))
 
     def test_reset(self):
-        """A message, or a header, that resets the session; behind it nothing is read."""
+        """A message, or a header, that resets the session; after it nothing is read."""
         for octets, code in ((RESET, 3), (b"\xfe" + KEEPALIVE[1:], 1), (KEEPALIVE[:-1] + b"\x09", 1)):
             table, warned = told(STREAM + octets + FIRST, FOUR)
             self.assertEqual((table.routes.size, table.taken, table.rest, warned), (6, len(STREAM), len(octets + FIRST), [ristulva.Reset]))
@@ -166,7 +166,7 @@ class Ends(unittest.TestCase):
             self.assertEqual(values(table.communities, "message"), [19, 19])
 
     def test_ip6(self):
-        """IPv6 routes that the context hasn't are told, wherever they stand, and nothing else that looks like them."""
+        """IPv6 routes that the context doesn't have are reported, wherever they are, and nothing else that looks like them."""
         lost = update(ORIGIN + PATH + REACH)
         like = update(ORIGIN + PATH + HOP + "c00808 0e010002 0100000f", nlri="080a")
         long = update(ORIGIN + PATH + REACH.replace("800e1a", "900e001a"))  # a length of two octets
@@ -206,7 +206,7 @@ class Buffers(unittest.TestCase):
             ristulva.table("text", FOUR)
 
     def test_mapped(self):
-        """A file that is mapped is read where it lies, and can be closed once its table is gone."""
+        """A file that is mapped is read in place, and can be closed once its table is freed."""
         with tempfile.TemporaryFile() as file:
             file.write(STREAM)
             file.flush()
@@ -271,7 +271,7 @@ class Joins(unittest.TestCase):
 
 class Without(unittest.TestCase):
     def test_no_numpy(self):
-        """Where there is no numpy, it is said; the rest of the package needs none."""
+        """Where there is no numpy, that is reported; the rest of the package needs none."""
         kept = sys.modules.get("numpy")
         sys.modules["numpy"] = None
         try:

@@ -4,7 +4,7 @@
 use std::path::{Path, PathBuf};
 use std::{env, fs};
 
-/// What cargo tells a build script in a variable.
+/// A variable that cargo sets for a build script.
 fn told(name: &str) -> String {
     env::var(name).unwrap_or_default()
 }

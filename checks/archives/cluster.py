@@ -6,7 +6,7 @@ import time
 
 SCHEDULER, WORKER = "distributed.cli.dask_scheduler", "distributed.cli.dask_worker"
 WATCHING = pathlib.Path(__file__).resolve().with_name("watching.py")
-# So many seconds are waited for what should come.
+# The seconds to wait for what should come.
 PATIENCE = 60
 
 
@@ -18,7 +18,7 @@ class Host:
 
 
 def eventually(what):
-    """What comes of a question once that is true, or last."""
+    """The answer to a question once it is true, or the last one."""
     until = time.monotonic() + PATIENCE
     while not (found := what()) and time.monotonic() < until:
         time.sleep(0.01)
@@ -26,7 +26,7 @@ def eventually(what):
 
 
 def in_file(path):
-    """What stands in a file; nothing where that isn't there."""
+    """The content of a file; nothing where it is missing."""
     return path.read_text() if path.exists() else ""
 
 
@@ -67,11 +67,11 @@ class Cluster:
         return subprocess.Popen([*self.hosts[0].words, self.python, *words], env=self.environment, **more)
 
     def kill_at_work(self, number):
-        """Kills a worker once it holds results and works on more. Answers how many it held; 0 where that doesn't come."""
+        """Kills a worker once it holds results and works on more. Answers how many it held; 0 where that doesn't happen."""
         held = eventually(lambda: in_file(self.folder / f"worker-{number}.held"))
         self.running[1 + number].kill()
         return int(held or 0)
 
     def logs(self):
-        """What the processes told."""
+        """What the processes printed."""
         return "".join(path.read_text(errors="replace") for path in sorted(self.folder.glob("*.log")))

@@ -1,11 +1,11 @@
 #!/usr/bin/env python3
-"""Makes a folder of MRT archives of two collectors, always the same for the same arguments, and reckons beside that what they tell: from the events by
+"""Makes a folder of MRT archives of two collectors, always the same for the same arguments, and computes beside that what they have: from the events by
 which they are made, and never by reading them.
 
-    make.py FOLDER FILES UPDATES     for each collector so many files of so many updates
+    make.py FOLDER FILES UPDATES     for each collector this number of files, of this number of updates each
 
 Each collector has a table dump and then files of updates: plain, gzip and bzip2 in turn. Messages have faults now and then, sessions fall and come up
-again, and of AS numbers one peer offers two octets."""
+again, and one peer has 2-octet AS numbers."""
 import bz2
 import collections
 import gzip
@@ -54,7 +54,7 @@ def text_of(prefix):
 
 
 def on_wire(prefixes):
-    """Prefixes as they stand in a message."""
+    """Prefixes as in a message."""
     return b"".join(bytes([length]) + octets for length, octets in prefixes)
 
 
@@ -244,7 +244,7 @@ def write(path, octets):
 
 
 def make(folder, files, count):
-    """Makes for each collector a table and so many files of so many updates. Answers what they tell."""
+    """Makes for each collector a table and a number of files with a number of updates. Answers their content."""
     truth = Truth()
     for seed, collector in enumerate(COLLECTORS):
         place, maker = os.path.join(folder, collector), Maker(collector, seed, truth)

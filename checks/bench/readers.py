@@ -1,9 +1,9 @@
-"""Readers of a stream of messages, each as its own documents have it used: `checks/bench/python` measures them, each in a process of its own.
+"""Readers of a stream of messages, each used as its own documents say: `checks/bench/python` measures them, each in a process of its own.
 
     readers.py NAME STREAM [MESSAGES] [ROUNDS]
 
-prints as JSON how many messages and routes the reader found, how long the best round took in seconds without what it imports, and its version. STREAM
-has AS numbers of four octets, and routes of IPv4 and IPv6; of it the first MESSAGES are read, all where that is 0."""
+prints as JSON the number of messages and routes that the reader found, the seconds of the best round without its imports, and its version. STREAM
+has 4-octet AS numbers, and routes of IPv4 and IPv6; of it the first MESSAGES are read, all where that is 0."""
 import concurrent.futures
 import json
 import logging
@@ -31,7 +31,7 @@ def messages_in(octets):
 
 
 def first(octets, count):
-    """The first so many messages."""
+    """The first messages, this many."""
     at = 0
     for _ in range(count):
         if at < len(octets):

@@ -1,8 +1,8 @@
-/* Judges each message of a stream by the library for C and walks all that stands in its UPDATEs by cursors: attributes, the prefixes of the
- * four fields, and the numbers of the AS path; or lets a session hear the stream, and counts the prefixes of what it announces and withdraws.
+/* Judges each message of a stream by the library for C and walks all parts of its UPDATEs by cursors: attributes, the prefixes of the
+ * four fields, and the numbers of the AS path; or passes the stream to a session, and counts the prefixes of what it announces and withdraws.
  * Prints the sums of one round, as baseline.rs does, and the best time of the rounds.
  *
- * usage: walk FILE ROUNDS [session | notes | fields]      the session has AS numbers of four octets and both families; notes and fields are asked for alone */
+ * usage: walk FILE ROUNDS [session | notes | fields]      the session has 4-octet AS numbers and both families; notes and fields are read alone */
 #define _POSIX_C_SOURCE 200809L
 #include "ristulva.h"
 #include <stdio.h>
@@ -179,7 +179,7 @@ static void establish(ristulva_session *session)
     must(ristulva_session_state(session, &state) == RISTULVA_OK && state == RISTULVA_ESTABLISHED, "the session isn't Established");
 }
 
-/* How many prefixes a cursor gives, told at once. */
+/* The number of prefixes that a cursor gives, counted in one call. */
 static unsigned long prefixes_of(const struct message *m, ristulva_prefixes cursor)
 {
     size_t count = 0;
@@ -214,7 +214,7 @@ static void count_routes(const struct message *m, struct sums *sums)
     sums->announced += prefixes_in(m, m->parts.nlri);
 }
 
-/* Lets a session hear a stream up to its end, or to where the session ends. */
+/* Passes a stream to a session up to its end, or to where the session ends. */
 static struct sums live(const uint8_t *octets, size_t len)
 {
     struct sums sums = {0};

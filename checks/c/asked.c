@@ -2,7 +2,7 @@
  *
  *     asked SEED ROUNDS FILE..
  *
- * The files have streams of octets, of which some are changed at random; octets lie beside memory that can't be read. Nothing of this takes memory:
+ * The files have streams of octets, of which some are changed at random; octets lie beside memory that can't be read. Nothing of this allocates:
  * the first allocation would fail. It runs on 32 KB of stack, and ends with 1 at the first answer that the header doesn't allow. */
 #include "ristulva.h"
 #include "trial.h"
@@ -44,7 +44,7 @@ static void make(struct octets *message, uint8_t kind, const char *body)
     message->at[18] = kind;
 }
 
-/* An UPDATE that withdraws 10.1.0.0/16, with these attributes, so many octets of them, and 10.0.0.0/8 as its NLRI. */
+/* An UPDATE that withdraws 10.1.0.0/16, with these attributes, of this length, and 10.0.0.0/8 as its NLRI. */
 static void update(struct octets *message, const char *attributes)
 {
     struct octets field = {{0}, 0};
@@ -163,7 +163,7 @@ static void by_hand_routes(void)
     make(&message, 2, "0000 0006 800f03 000201");
     routes_are(&two, &message, 0, taken, 0);
     routes_are(&without, &message, 1, taken, 0);
-    /* ORIGIN twice: the first stands. MP_REACH_NLRI twice ends the session. */
+    /* ORIGIN twice: the first counts. MP_REACH_NLRI twice ends the session. */
     update(&message, ORIGIN ORIGIN PATHS HOPS GONE);
     routes_are(&two, &message, 0, taken, 4);
     update(&message, ORIGIN PATHS HOPS HOPS GONE);
@@ -197,7 +197,7 @@ static void by_hand_agreement(void)
     make(&theirs, 1, "04 fde9 005a c0000202 08 0206 41040000fdea");
     WANT(ristulva_agree(theirs.at, theirs.len, other.at, other.len, &context, &hold) == RISTULVA_OK && context.internal == 1 && context.as4 == 0);
     WANT(ristulva_agree(theirs.at, theirs.len, ours.at, ours.len, &context, &hold) == RISTULVA_OK && context.internal == 0 && context.as4 == 1);
-    /* The first that is no OPEN says why. */
+    /* The status is that of the first that isn't an OPEN. */
     memset(&context, 0xa5, sizeof context);
     hold = 77;
     make(&other, 4, "");
@@ -248,7 +248,7 @@ static void by_hand_names(void)
     name_is(RISTULVA_NAME_SUBCODE, RISTULVA_ERROR_UPDATE, RISTULVA_ERROR_UPDATE_MALFORMED_AS_PATH, "Malformed AS_PATH");
     name_is(RISTULVA_NAME_SUBCODE, RISTULVA_ERROR_CEASE, 0, "");
     WANT(ristulva_name(0, 1, 0, NULL, 0, &written) == RISTULVA_RANGE && written == 77);
-    /* Room is enough for each, also where a pointer to nothing stands beside a length of nothing. */
+    /* Room is enough for each, also where a null pointer is beside a length of 0. */
     for (kind = RISTULVA_NAME_STATUS; kind <= RISTULVA_NAME_SUBCODE; kind++)
         for (number = 0; number < 256; number++)
             for (subcode = 0; subcode < (kind == RISTULVA_NAME_SUBCODE ? 256u : 1u); subcode++) {
@@ -317,7 +317,7 @@ static uint32_t below(uint32_t bound)
     return (uint32_t)((state >> 33) % bound);
 }
 
-/* A place of which the first and the last octet lie beside memory that can't be touched. */
+/* A buffer between two pieces of memory that can't be touched. */
 static uint8_t *place;
 #define PLACE 8192u
 
@@ -442,7 +442,7 @@ static void load(const char *name)
     fclose(file);
 }
 
-/* A message of a stream, changed at some places. */
+/* A message of a stream, changed at some offsets. */
 static size_t some_octets(uint8_t *octets)
 {
     size_t at = below((uint32_t)size - 4200), len = below(4096), i;

@@ -1,4 +1,4 @@
-/* What is handed on of messages: an UPDATE that is treated as a withdrawal, attributes that are discarded or left out by type, an OPEN with
+/* What is passed on of messages: an UPDATE that is treated as a withdrawal, attributes that are discarded or left out by type, an OPEN with
  * capabilities of all kinds, where a stream ends, and little room; each with each allocation failing in turn. It ends with 1 at the first answer
  * that the header doesn't allow. */
 #include "ristulva.h"
@@ -23,7 +23,7 @@
 static const ristulva_context context = {0, 1, 1, 1};
 static uint8_t octets[RISTULVA_MESSAGE], wanted[RISTULVA_PARTS], handed[RISTULVA_PARTS + 1];
 
-/* What is handed on of so many of the octets, with each allocation failing in turn: nothing is written then, nor left behind. */
+/* What is passed on of the first octets, with each allocation failing in turn: nothing is written or leaked then. */
 static ristulva_status clean(const uint8_t *types, size_t count, uint8_t first, size_t len, size_t room, size_t *written, ristulva_cleaned *out)
 {
     ristulva_status status;
@@ -46,7 +46,7 @@ static ristulva_status clean(const uint8_t *types, size_t count, uint8_t first, 
     return status;
 }
 
-/* The octets come to what is wanted, and what is wanted to itself. */
+/* Cleaning the octets gives what is wanted, and cleaning that leaves it unchanged. */
 static void becomes(const uint8_t *types, size_t count, size_t len, size_t wanted_len, ristulva_cleaned told)
 {
     size_t written;
@@ -89,7 +89,7 @@ static void updates(void)
     told.verdict = RISTULVA_UPDATE;
     told.discarded = 1;
     becomes(types, 0, len, wanted_len, told);
-    /* The types 20 and 30 are left out, and then 20 alone. */
+    /* The types 20 and 30 are left out, and then only 20. */
     told.discarded = 0;
     told.left_out = 2;
     len = message(2, "0000 0020" ORIGIN PATH NEXT_HOP OTHERS "080a", octets);
@@ -98,7 +98,7 @@ static void updates(void)
     len = message(2, "0000 0020" ORIGIN PATH NEXT_HOP OTHERS "080a", octets);
     wanted_len = message(2, "0000 001c" ORIGIN PATH NEXT_HOP "c01e0102 080a", wanted);
     becomes(types + 1, 2, len, wanted_len, told);
-    /* Of attributes without routes nothing is left: that is a KEEPALIVE, and no End-of-RIB. */
+    /* Nothing remains of attributes without routes: that is a KEEPALIVE, and not an End-of-RIB. */
     told.left_out = 2;
     len = message(2, "0000 0008" OTHERS, octets);
     wanted_len = message(4, "", wanted);
@@ -114,7 +114,7 @@ static void opens(void)
 {
     ristulva_cleaned told = {0};
     size_t len, wanted_len;
-    /* IPv4 unicast, route refresh, AS 200000, IPv4 unicast once more, and IPv4 multicast: two go on, in one parameter. */
+    /* IPv4 unicast, route refresh, AS 200000, IPv4 unicast once more, and IPv4 multicast: two are passed on, in one parameter. */
     len = message(1, "04 5ba0 005a c0000202 1c 021a 010400010001 0200 410400030d40 010400010001 010400010002", octets);
     wanted_len = message(1, "04 5ba0 005a c0000202 0e 020c 010400010001 410400030d40", wanted);
     told.verdict = RISTULVA_OPEN;
@@ -126,7 +126,7 @@ static void opens(void)
     told.capabilities = 0;
     told.len = (uint32_t)len;
     ends(0, len, told);
-    /* It offers IPv4 multicast alone. */
+    /* It offers only IPv4 multicast. */
     len = message(1, "04 5ba0 005a c0000202 08 0206 010400010002", octets);
     told.ends = RISTULVA_ENDS_NO_FAMILY;
     ends(1, len, told);

@@ -56,7 +56,7 @@ class Collector:
                 raise AssertionError(f"the collector did not print: {line}")
 
     def settle(self):
-        """Waits until two seconds have brought no line, where there are too many to look at all of them each time."""
+        """Waits until two seconds have brought no line, where there are too many to read all of them each time."""
         end, count = time.monotonic() + 4 * LIMIT, -1
         while count != len(self.lines):
             assert time.monotonic() < end, "lines come and come"
@@ -154,7 +154,7 @@ class Peer:
             self.rest += more
 
     def notified(self):
-        """Code and subcode of the NOTIFICATION that comes, how many KEEPALIVEs came before it; the collector's side ends behind it."""
+        """Code and subcode of the received NOTIFICATION, and the number of KEEPALIVEs before it; the collector's side ends after it."""
         keepalives = 0
         while (found := self.hear())[18] == messages.KEEPALIVE:
             keepalives += 1
@@ -191,7 +191,7 @@ def withdraw6(routes):
 
 
 def narrow_open(asn, hold, address):
-    """An OPEN without capabilities: AS numbers of two octets and IPv4 alone."""
+    """An OPEN without capabilities: 2-octet AS numbers and IPv4 alone."""
     return messages.message(messages.OPEN, struct.pack(">BHH", 4, asn, hold) + ipaddress.ip_address(address).packed + b"\x00")
 
 
@@ -201,7 +201,7 @@ def free_port():
 
 
 def steady(peer):
-    """What a peer says that stays to the end, in odd pieces, and the lines of it."""
+    """What a peer sends that stays to the end, in odd pieces, and the lines of it."""
     path = messages.attribute(0x40, 2, struct.pack(">BBII", 2, 2, peer.asn, 70000) + struct.pack(">BBII", 1, 2, 65010, 65011))
     lead = messages.attribute(0x40, 1, b"\x00") + path
     hop = messages.attribute(0x40, 3, ipaddress.ip_address(HOP4).packed)
@@ -229,7 +229,7 @@ def many(peer):
 
 
 class Run:
-    """Peers of all kinds at once. `report` takes what was tried, whether it went as wanted, and what there is to tell."""
+    """Peers of all kinds at once. `report` takes what was tried, whether it went as wanted, and what there is to report."""
 
     def __init__(self, made, report):
         self.report, self.port = report, free_port()
@@ -249,7 +249,7 @@ class Run:
         self.collector.wait_for(f"{peer.name} {lines[-1]}", self.lines[peer].count(lines[-1]))
 
     def two_octets(self):
-        """One that comes of itself, and has AS numbers of two octets and IPv4 alone."""
+        """One that connects by itself, and has 2-octet AS numbers and IPv4 alone."""
         self.narrow.connect(self.port)
         self.narrow.come_up(narrow_open(65007, 30, "127.0.0.8"))
         path = messages.attribute(0x40, 2, struct.pack(">BBHH", 2, 2, 65007, 23456))
@@ -260,7 +260,7 @@ class Run:
         self.rows[self.narrow] = ["Established", "1", "1", "1", "0", "0", "0"]
 
     def falls_silent(self):
-        """One that comes up and says nothing more: `is_given_up` sees the end of it."""
+        """One that comes up and sends nothing more: `is_given_up` sees the end of it."""
         self.silent.accept()
         self.silent.listener.close()
         self.silent.come_up()
@@ -284,7 +284,7 @@ class Run:
                 self.report(f"a connection from {address} is ended", connection.recv(1) == b"")
 
     def bad_update(self):
-        """One that sends an UPDATE whose lengths are wrong is told so, whatever it says behind that, and is sought again."""
+        """One that sends an UPDATE whose lengths are wrong gets the NOTIFICATION, whatever it sends after that, and is sought again."""
         bad = messages.message(messages.UPDATE, b"\x00\x09\x00\x00")
         self.faulty.accept()
         self.faulty.come_up()
@@ -298,7 +298,7 @@ class Run:
         self.rows[self.faulty] = ["Established", "2", "1", "0", "0", "1", "0"]
 
     def comes_and_goes(self):
-        """One that goes away inside of the collector's OPEN, inside of a message of its own, and by a NOTIFICATION, and comes again each time."""
+        """One that goes away inside of the collector's OPEN, inside of a message of its own, and by a NOTIFICATION, and connects again each time."""
         with socket.create_connection((OWN, self.port), LIMIT, source_address=(self.going.address, 0)) as connection:
             connection.recv(1)
         self.printed(self.going, "down lost")
@@ -314,7 +314,7 @@ class Run:
         self.rows[self.going] = ["Established", "3", "3", "3", "0", "0", "0"]
 
     def another_as(self):
-        """One that has another AS number than it is said to have."""
+        """One that has another AS number than is configured."""
         self.other.accept()
         self.other.listener.close()
         self.other.say(messages.open_message(64999, 90, "127.0.0.6"))
@@ -374,7 +374,7 @@ def run(made, number, report):
 
 
 def try_pair(made, addresses, report):
-    """Two collectors, each a peer of the other: both seek, and one connection stands."""
+    """Two collectors, each a peer of the other: both seek, and one connection is up."""
     ports = [free_port(), free_port()]
     agreed = "hold 90 offers as4 ip4 ip6, agreed hold 90 as4 ip4 ip6"
     names = [f"{65001 + side}@{addresses[side]}#{ports[side]}" for side in (0, 1)]
@@ -395,7 +395,7 @@ def try_pair(made, addresses, report):
 
 
 def try_late(made, report):
-    """A peer that isn't there yet, and one that never comes."""
+    """A peer that isn't up yet, and one that never is."""
     port, other = free_port(), free_port()
     names = [f"65001@127.0.0.2#{port}", f"65002@127.0.0.3#{other}"]
     collector = Collector(made, "-l", OWN, "-p", free_port(), OURS, OWN, *names)
@@ -421,7 +421,7 @@ def try_late(made, report):
 
 
 def try_again(made, report):
-    """A peer that lets go of a connection before its OPEN, as where both sides connect at once and each refuses the other's."""
+    """A peer that closes a connection before its OPEN, as where both sides connect at once and each refuses the other's."""
     peer = Peer(65001, "127.0.0.2")
     collector = Collector(made, "-l", OWN, "-p", free_port(), OURS, OWN, peer.name)
     try:
@@ -474,7 +474,7 @@ def try_both_families(made, report):
 
 
 def try_stopped_reader(made, report):
-    """Nobody reads what it prints for longer than the Hold Time: its KEEPALIVEs go on, and nothing of what it says is lost."""
+    """Nobody reads what it prints for longer than the Hold Time: its KEEPALIVEs continue, and nothing of what it prints is lost."""
     peer = Peer(65001, "127.0.0.2", hold=3)
     collector = Collector(made, "-l", OWN, "-p", free_port(), OURS, OWN, peer.name, is_read=False)
     try:
@@ -504,7 +504,7 @@ def try_stopped_reader(made, report):
 
 
 def try_no_reader(made, report):
-    """Nobody reads at all, and less than everything can wait: whole lines are left out, and counted."""
+    """Nobody reads at all, and not everything can be buffered: whole lines are left out, and counted."""
     peer = Peer(65001, "127.0.0.2", hold=0)
     collector = Collector(made, "-l", OWN, "-p", free_port(), OURS, OWN, peer.name, is_read=False)
     try:
@@ -535,7 +535,7 @@ def try_no_reader(made, report):
 
 
 def try_any(made, report):
-    """Peers of any AS number: one that says an OPEN octet by octet, and one that says something else; and a text for the end."""
+    """Peers of any AS number: one that sends an OPEN octet by octet, and one that sends something else; and a text for the end."""
     port, text = free_port(), "router is serviced"
     collector = Collector(made, "-l", OWN, "-p", port, "-m", text, OURS, OWN, "*@127.0.0.2", "*@127.0.0.3")
     good, bad = Peer(4200000001, "127.0.0.2"), Peer(65001, "127.0.0.3")
@@ -588,7 +588,7 @@ def has_signatures():
 
 
 def try_secured(made, words, others, report):
-    """Two collectors with the same options of their sockets come up; one with others doesn't hear and isn't heard."""
+    """Two collectors with the same options of their sockets come up; one with others neither receives nor is received."""
     ports = [free_port(), free_port()]
     names = [f"{65001 + side}@127.0.0.{2 + side}#{ports[side]}" for side in (0, 1)]
     own = [["-l", f"127.0.0.{2 + side}", "-p", ports[side], 65001 + side, f"192.0.2.{1 + side}", names[1 - side]] for side in (0, 1)]
@@ -627,7 +627,7 @@ class Scarce:
             self.collector.wait_for(f"{peer.name} {peer.up()}")
 
     def goes_on(self):
-        """A stranger's connection waits to be accepted. Meanwhile little is said and done, and the sessions go on."""
+        """A stranger's connection waits to be accepted. Meanwhile little is printed and done, and the sessions continue."""
         with socket.create_connection((OWN, self.port), LIMIT, source_address=("127.0.0.77", 0)) as waiting:
             before = self.collector.seconds()
             time.sleep(2.5)

@@ -1,9 +1,9 @@
-/* Decoders, which take streams in pieces, against ristulva_judge, which has them whole:
+/* Decoders, which read streams in pieces, against ristulva_judge, which gets them whole:
  *
  *     decoders FILE..
  *
  * The stream of each file, and changed forms of it, are cut at each place, octet by octet, and at random: the outcomes have to be the same, with
- * the same octets, and nothing may be written behind them. Each allocation fails in turn, on STACK octets of stack. It prints how many calls it
+ * the same octets, and nothing may be written after them. Each allocation fails in turn, on STACK octets of stack. It prints how many calls it
  * made, and ends with 1 at the first answer that the header doesn't allow. */
 #include "ristulva.h"
 #include "trial.h"
@@ -24,7 +24,7 @@ static uint32_t below(uint32_t bound)
     return (uint32_t)((state >> 33) % bound);
 }
 
-/* ---- a stream, and what ristulva_judge tells of it ---- */
+/* ---- a stream, and what ristulva_judge reports of it ---- */
 
 #define SIZE (1u << 18)
 #define MESSAGES 4096u
@@ -33,7 +33,7 @@ static uint8_t stream[SIZE];
 static size_t size;
 static ristulva_context context;
 
-/* A message of the stream: where it begins, and how many octets are taken up to its end. */
+/* A message of the stream: its offset, and the number of octets consumed up to its end. */
 static struct told {
     ristulva_verdict verdict;
     size_t at, taken;
@@ -66,7 +66,7 @@ static void judge_whole(void)
 
 static ristulva_decoder decoder;
 
-/* What a pull tells of a message is what ristulva_judge tells. */
+/* What a pull reports of a message is what ristulva_judge reports. */
 static void check_message(const struct told *want, const ristulva_verdict *verdict, const uint8_t *message, const uint8_t *data)
 {
     static uint8_t wanted[RISTULVA_DATA];
@@ -82,7 +82,7 @@ static void check_message(const struct told *want, const ristulva_verdict *verdi
         WANT(data[i] == 0x5a);
 }
 
-/* Hands in a piece, which lies in memory of its own, until nothing of it is left or a reset was told. Answers how many messages were told by now. */
+/* Passes a piece, which is in memory of its own, until nothing of it remains or a reset was reported. Answers the number of messages reported so far. */
 static size_t pull_all(size_t at, size_t len, size_t count)
 {
     static uint8_t message[RISTULVA_MESSAGE + 1], data[RISTULVA_DATA + 1];
@@ -115,7 +115,7 @@ static size_t pull_all(size_t at, size_t len, size_t count)
     }
 }
 
-/* The stream in pieces of lengths that are told one after another: the outcomes are those of the whole. */
+/* The stream in pieces of the lengths listed: the outcomes are those of the whole. */
 static void try_pieces(size_t first, uint32_t most)
 {
     size_t at = 0, count = 0, held = 77;
@@ -138,7 +138,7 @@ static void try_pieces(size_t first, uint32_t most)
     WANT(ristulva_decoder_free(&decoder) == RISTULVA_OK && decoder.body == NULL && live == 0);
 }
 
-/* The stream whole, cut once at each place (where it is long, at some), octet by octet, and at random. */
+/* The stream whole, cut once at each offset (where it is long, at some), octet by octet, and at random. */
 static void try_cuts(void)
 {
     size_t cut, step = 1 + size / 1500;
@@ -153,7 +153,7 @@ static void try_cuts(void)
 
 /* ---- arguments ---- */
 
-/* Nothing changes by any of these, and no octet is taken. */
+/* Nothing changes by any of these, and no octet is consumed. */
 static void try_rooms(void)
 {
     static uint8_t message[RISTULVA_MESSAGE], data[RISTULVA_DATA];

@@ -20,7 +20,7 @@ ORDER = messages.update(BASIS[4:] + BASIS[:4], ROUTE)
 BAD_AGGREGATOR = messages.update(BASIS + messages.attribute(0xC0, 7, b"\x00" * 7), ROUTE)
 # One that can't be judged: its attributes are longer than it is.
 FAULTY = messages.message(messages.UPDATE, b"\x00\x00\xff\xff")
-# IPv4 and IPv6 unicast, AS numbers of four octets; and ROUTE-REFRESH, which isn't handed on.
+# IPv4 and IPv6 unicast, 4-octet AS numbers; and ROUTE-REFRESH, which isn't passed on.
 OPENS = {asn: messages.open_message(asn, 90, f"192.0.2.{asn % 100}") for asn in (OUTER_AS, INNER_AS)}
 REFRESH = OPENS[OUTER_AS][19:28] + bytes([OPENS[OUTER_AS][28] + 4]) + OPENS[OUTER_AS][29:] + b"\x02\x02\x02\x00"
 STREAMS = (
@@ -52,7 +52,7 @@ class Guarded:
 
 
 def hear(side, count):
-    """So many octets that reach a side."""
+    """`count` octets that reach a side."""
     octets = b""
     while len(octets) < count:
         more = side.connection.recv(65536)
@@ -104,7 +104,7 @@ def try_faults(made, report):
 
 
 def try_absence(made, report):
-    """An inner speaker that can't be reached: the outer peer is told 6/5."""
+    """An inner speaker that can't be reached: the outer peer is sent 6/5."""
     run = guards.Run([made, 0, "127.0.0.1", guards.free_port()])
     outer = Peer.connect(int(run.line("listen ").split()[1]), OUTER_AS)
     heard = outer.hear_all()
@@ -114,7 +114,7 @@ def try_absence(made, report):
 
 
 def try_table(made, report):
-    """A table that the inner speaker reads late: all of it comes, in order."""
+    """A table that the inner speaker reads late: all of it arrives, in order."""
     guard = Guarded(made)
     guard.inner.say(OPENS[INNER_AS] )
     guard.outer.say(OPENS[OUTER_AS])
@@ -159,7 +159,7 @@ class Asks(ctypes.Structure):
 
 
 class Handle:
-    """A guard behind a handle, and what it does as rows tell it (docs/ROWS.md)."""
+    """A guard behind a handle, and what it does in the words of rows (docs/ROWS.md)."""
 
     def __init__(self, library, settings):
         passed = bytes(kind for kind in range(256) if str(kind) not in settings)
@@ -189,7 +189,7 @@ class Handle:
         return asks
 
     def make(self, line, octets_of):
-        """What a line says happens, and then what is on its way and which side is closed."""
+        """What a line says happens, and then what is queued and which side is closed."""
         word, _, told = line.partition(" ")
         side = ("outer", "inner", "tick", "stops", "stalls").index(word)
         if word == "tick":
@@ -220,7 +220,7 @@ class Handle:
 
 
 def by_row(library, lines, octets_of):
-    """What a guard of the library's does of a row's lines: of those behind `after` nothing is told."""
+    """What a guard of the library's does of a row's lines: those after `after` aren't reported."""
     guard, page = Handle(library, lines[1].split()[1:]), []
     for line in lines[2 : lines.index("want")]:
         word, _, told = line.partition(" ")
@@ -233,12 +233,12 @@ def by_row(library, lines, octets_of):
 
 
 def is_offered(lines):
-    """Whether a row can be told by the library's calls: its guards have no limits."""
+    """Whether a row can be run by the library's calls: its guards have no limits."""
     return all(word in ("slow", "one-way") or word.isdecimal() for word in lines[1].split()[1:])
 
 
 def try_rows(library, paragraphs, octets_of, report):
-    """The rows of guards: what is told of each is what stands there."""
+    """The rows of guards: what is reported of each is what is written there."""
     library = ctypes.CDLL(str(library))
     for lines in paragraphs:
         if len(lines) > 1 and lines[1].split()[0] == "guard" and is_offered(lines):

@@ -1,5 +1,5 @@
-/* Guards: each call, with sides that are none, handles without a guard and each allocation failing in turn; and sessions whose octets are handed on,
- * changed and answered, with what comes of them written by hand, and others by chance:
+/* Guards: each call, with invalid sides, handles without a guard and each allocation failing in turn; and sessions whose octets are passed on,
+ * changed and answered, with their results written by hand, and others by chance:
  *
  *     guards
  *
@@ -21,11 +21,11 @@ static ristulva_guard guard;
 
 /* ---- octets, as RFC 4271 has them ---- */
 
-/* AS 65001 and 65002, hold time 90: IPv4 unicast, AS numbers of four octets; and of the first ROUTE-REFRESH (2), which isn't handed on. */
+/* AS 65001 and 65002, hold time 90: IPv4 unicast, 4-octet AS numbers; and of the first ROUTE-REFRESH (2), which isn't passed on. */
 #define OUTER_OPEN "04 fde9 005a c0000201 10 020e 010400010001 41040000fde9 0200"
 #define CLEAN_OPEN "04 fde9 005a c0000201 0e 020c 010400010001 41040000fde9"
 #define INNER_OPEN "04 fdea 005a c0000202 0e 020c 010400010001 41040000fdea"
-/* 10.0.0.0/8 by way of AS 65000 and 192.0.2.1; the same with an ORIGIN of 3, which is treated as a withdrawal; with attribute 28 behind. */
+/* 10.0.0.0/8 by AS 65000 and 192.0.2.1; the same with an ORIGIN of 3, which is treated as a withdrawal; with attribute 28 after. */
 #define UPDATE "0000 0014 40010100 40020602010000fde8 400304c0000201 080a"
 #define BAD_ORIGIN "0000 0014 40010103 40020602010000fde8 400304c0000201 080a"
 #define WITHDRAWAL "0002 080a 0000"
@@ -62,7 +62,7 @@ static void happens(uint32_t side, uint32_t event)
     WANT(ristulva_guard_event(&guard, side, event) == RISTULVA_OK);
 }
 
-/* What is on its way to a side is what is wanted, also where there is room for less, and nothing is written behind it. */
+/* What is queued for a side is what is wanted, also where there is room for less, and nothing is written after it. */
 static void check_way(uint32_t side)
 {
     static uint8_t octets[2 * RISTULVA_MESSAGE];
@@ -90,7 +90,7 @@ static void sends(uint32_t side, size_t count)
     check_way(side);
 }
 
-/* A side sends so many octets of a message, which the guard takes as `came`; octets behind it, and what they say, are for the next call. */
+/* The guard consumes `takes` of these octets of a side, and reports `told`; the octets after them are for the next call. */
 static void hears(uint32_t side, const uint8_t *octets, size_t len, size_t takes, ristulva_came told)
 {
     ristulva_came came;
@@ -102,7 +102,7 @@ static void hears(uint32_t side, const uint8_t *octets, size_t len, size_t takes
 
 static const ristulva_came nothing = {RISTULVA_CAME_NOTHING, 0, 0, 0, 0};
 
-/* A message of a side is handed on, where it comes whole with others behind it, or octet by octet. */
+/* A message of a side is passed on, where it arrives whole with others after it, or octet by octet. */
 static void hands_on(uint32_t side, uint8_t kind, const char *body, uint8_t same)
 {
     static int turn;
@@ -121,7 +121,7 @@ static void hands_on(uint32_t side, uint8_t kind, const char *body, uint8_t same
     hears(side, octets + i, 1, 1, told);
 }
 
-/* A message of a side isn't handed on. */
+/* A message of a side isn't passed on. */
 static void drops(uint32_t side, uint8_t kind, const char *body)
 {
     uint8_t octets[RISTULVA_MESSAGE];
@@ -195,7 +195,7 @@ static void come_up(const uint8_t *pass, size_t count, uint8_t one_way)
 
 /* ---- sessions ---- */
 
-/* What is handed on, and a message that ends the session: 3/1 to its sender, 6/4 to the other. */
+/* What is passed on, and a message that ends the session: 3/1 to its sender, 6/4 to the other. */
 static void faults(void)
 {
     come_up(NULL, 0, 0);
@@ -221,7 +221,7 @@ static void faults(void)
     finish();
 }
 
-/* An attribute type that is handed on, and routes that stay inside. */
+/* An attribute type that is passed on, and routes that stay inside. */
 static void rules(void)
 {
     static const uint8_t pass[] = {16, 28, 28};
@@ -234,7 +234,7 @@ static void rules(void)
     finish();
 }
 
-/* A NOTIFICATION is handed on, and ends both directions; and a side that closes: the other gets what is on its way, for ten seconds. */
+/* A NOTIFICATION is passed on, and ends both directions; and a side that closes: the other gets what is queued, for ten seconds. */
 static void ends(void)
 {
     int i;
@@ -258,7 +258,7 @@ static void ends(void)
     finish();
 }
 
-/* A side that can't be reached, and OPENs that are missing for 240 seconds: 4/0 to who sent none, 6/4 to who did. */
+/* A side that can't be reached, and OPENs that are missing for 240 seconds: 4/0 to the side that sent none, 6/4 to the one that did. */
 static void absences(void)
 {
     int i;
@@ -327,7 +327,7 @@ static void left_alone(uint32_t side, uint32_t event, ristulva_status status)
     WANT(ristulva_guard_peer(&guard, side, &peer) == status && peer.as_number == 0xa5a5a5a5u && peer.ip6 == 0xa5);
 }
 
-/* A side or an event that is none comes before a handle without a guard. */
+/* An invalid side or event is reported before a handle without a guard. */
 static void ranges(ristulva_status status)
 {
     left_alone(2, RISTULVA_SIDE_STOOD, RISTULVA_RANGE);
@@ -387,7 +387,7 @@ static size_t some_message(uint32_t side, unsigned turn, uint8_t *octets)
     return len;
 }
 
-/* What is put behind so many octets of a way is one whole message, or nothing. */
+/* What is queued after these octets is one whole message, or nothing. */
 static void check_behind(uint32_t side, size_t before, int is_message)
 {
     size_t len = asks_of(side).way, written;
@@ -399,7 +399,7 @@ static void check_behind(uint32_t side, size_t before, int is_message)
     free(octets);
 }
 
-/* A side sends some octets, in memory of their own. Answers how many are taken. */
+/* A side sends some octets, in memory of their own. Answers the number consumed. */
 static size_t hears_some(uint32_t side, const uint8_t *octets, size_t len)
 {
     uint8_t *piece = malloc(len == 0 ? 1 : len);

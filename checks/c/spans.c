@@ -1,10 +1,10 @@
-/* The fields of messages, the places of their faults, and those of their notes:
+/* The fields of messages, the octets of their faults, and those of their notes:
  *
  *     spans FILE..
  *
  * Of the messages of each file, and of changed forms of them, in some contexts: the fields joined have to be the message, with room for all of them and
- * for no more, and with less room nothing may be written; a fault has a place just where the message is answered by a reset, and a note unless it says
- * that an attribute is missing. Octets lie in memory of their own, so that the sanitizers see what is read behind them. It runs on STACK octets of stack,
+ * for no more, and with less room nothing may be written; a fault has octets exactly where the message is answered by a reset, and a note unless it says
+ * that an attribute is missing. Octets are in memory of their own, so that the sanitizers see reads after them. It runs on STACK octets of stack,
  * prints how many calls it made, and ends with 1 at the first answer that the header doesn't allow. */
 #include "ristulva.h"
 #include "trial.h"
@@ -29,7 +29,7 @@ static uint32_t below(uint32_t bound)
 
 static ristulva_field fields[RISTULVA_FIELDS];
 
-/* A group begins in front of its fields, and its type or code stands at its beginning. */
+/* A group begins before its fields, and its type or code is at its beginning. */
 static void check_group(const uint8_t *octets, const ristulva_field *field, const ristulva_verdict *verdict)
 {
     if (field->group == 0) {
@@ -158,7 +158,7 @@ static void try_values(void)
     ristulva_span span = {77, 77};
     uint8_t marker[19];
     size_t count = 0;
-    /* Its Length says 33 octets, and two stand behind it. */
+    /* Its Length says 33 octets, and two follow it. */
     uint8_t update[sizeof UPDATE];
     memcpy(update, UPDATE, sizeof update);
     update[17] = 33;

@@ -3,7 +3,7 @@
  *     stress SEED ROUNDS FILE..
  *
  * The files have streams of octets, of which some are changed at random. Built with the sanitizers it also shows that nothing is
- * written outside of what a call is handed; octets lie beside memory that can't be read. It runs on STACK octets of stack, which
+ * written outside of what a call is given; octets lie beside memory that can't be read. It runs on STACK octets of stack, which
  * are 32 KB, and on 24 KB more with ristulva_clean and guards. Blocks of memory are counted: a session, a decoder and a guard give
  * theirs back when they are freed, and no other call leaves any. It prints how many calls it made, and ends with 1 at the first
  * answer that the header doesn't allow. */
@@ -19,10 +19,10 @@
 #endif
 #define MORE_STACK (STACK + 24 * 1024)
 
-/* Whether messages are cleaned too, which takes more stack. */
+/* Whether messages are cleaned too, which uses more stack. */
 static int cleans;
 
-/* How many blocks of memory calls have left: one of a session, some of a guard. */
+/* The number of blocks of memory that calls have left allocated: one of a session, some of a guard. */
 static long kept;
 
 /* ---- calls ---- */
@@ -78,7 +78,7 @@ static void check_note(const ristulva_note_found *note, const uint8_t *octets, c
     WANT(note->at == 0 || note->kind == 0 || note->kind == octets[note->at + 1]);
 }
 
-/* All notes, and as many as there is room for: an accepted UPDATE may have some, and one that is treated as a withdrawal has one at least. */
+/* All notes, or as many as fit: an accepted UPDATE may have some, and one that is treated as a withdrawal has one at least. */
 static void try_notes(const ristulva_context *context, const uint8_t *octets, size_t len, const ristulva_found *found, const ristulva_verdict *verdict)
 {
     static ristulva_note_found all[RISTULVA_NOTES + 1], some[RISTULVA_NOTES + 1], old;
@@ -190,7 +190,7 @@ static uint32_t number_at(const uint8_t *octets)
     return (uint32_t)octets[0] << 24 | (uint32_t)octets[1] << 16 | (uint32_t)octets[2] << 8 | octets[3];
 }
 
-/* Whether the twelve octets at an offset stand nowhere before, from the first on. */
+/* Whether the twelve octets at an offset don't occur before, from the first on. */
 static int is_new(const uint8_t *octets, uint32_t first, uint32_t at)
 {
     for (; first < at; first += 12)
@@ -398,7 +398,7 @@ static void try_encode(const ristulva_context *context, const uint8_t *body, siz
     calls += 2;
 }
 
-/* One of the messages that are handed on: it is accepted, has no notes, is no longer, and is handed on as it is. */
+/* One of the messages that are passed on: it is accepted, has no notes, is no longer, and is passed on unchanged. */
 static size_t check_part(const ristulva_context *context, const uint8_t *types, size_t count, uint8_t first, const uint8_t *part, size_t left,
                          const ristulva_cleaned *told)
 {
@@ -426,7 +426,7 @@ static size_t check_part(const ristulva_context *context, const uint8_t *types, 
     return verdict.len;
 }
 
-/* What is handed on of the first message: one message, or up to three of an UPDATE; and all that is told of it fits. */
+/* What is passed on of the first message: one message, or up to three of an UPDATE; and all that is reported of it fits. */
 static void check_handed(const ristulva_context *context, const uint8_t *types, size_t count, uint8_t first, const uint8_t *handed, size_t written,
                          const ristulva_cleaned *told)
 {
@@ -438,7 +438,7 @@ static void check_handed(const ristulva_context *context, const uint8_t *types, 
     WANT(at == written && parts >= 1 && parts <= (told->verdict == RISTULVA_UPDATE ? 3 : 1));
 }
 
-/* With room for all and for less, and some types. It takes no memory. */
+/* With room for all and for less, and some types. It doesn't allocate. */
 static void try_clean(const ristulva_context *context, const uint8_t *octets, size_t len, const ristulva_found *found, const ristulva_verdict *verdict)
 {
     static uint8_t handed[RISTULVA_PARTS + 1];
@@ -477,7 +477,7 @@ static void try_clean(const ristulva_context *context, const uint8_t *octets, si
         check_handed(context, types, count, first, handed, written, &told);
 }
 
-/* A decoder that gets the octets in two pieces tells the same of the first message. */
+/* A decoder that gets the octets in two pieces reports the same of the first message. */
 static void try_decoder(const ristulva_context *context, const uint8_t *octets, size_t len, const ristulva_found *found, const ristulva_verdict *verdict)
 {
     static uint8_t message[RISTULVA_MESSAGE + 1], data[RISTULVA_DATA + 1];
@@ -558,7 +558,7 @@ static void bring_up(uint8_t *message)
     (void)ristulva_session_hear(&session, octets, 19, &heard, &actions, message, RISTULVA_MESSAGE, &written);
 }
 
-/* A session that is told something at random, and hears the octets. */
+/* A session that gets events at random, and receives the octets. */
 static void try_session(const uint8_t *octets, size_t len, const ristulva_found *found)
 {
     static const uint8_t events[] = {1, 2, 9, 10, 11, 16, 18};
@@ -628,7 +628,7 @@ static void renew_guard(void)
     calls += (unsigned long)guard_blocks + 3;
 }
 
-/* A guard that is told something at random, hears the octets of a side, and sends: none of it takes memory, and nothing but its end gives any back. */
+/* A guard that gets events at random, receives the octets of a side, and sends: none of it allocates, and only its end frees memory. */
 static void try_guard(const uint8_t *octets, size_t len)
 {
     static uint8_t way[RISTULVA_MESSAGE + 1];
@@ -663,7 +663,7 @@ static void try_guard(const uint8_t *octets, size_t len)
         free_guard();
 }
 
-/* All calls on some octets, which lie at one end of that place. */
+/* All calls on some octets, which are at one end of that buffer. */
 static void try_all(const uint8_t *from, size_t len)
 {
     ristulva_context context;
@@ -735,7 +735,7 @@ static void load(const char *name)
     fclose(file);
 }
 
-/* A message of a stream, changed at some places, or octets behind a header. */
+/* A message of a stream, changed at some offsets, or octets after a header. */
 static size_t some_octets(uint8_t *octets)
 {
     size_t len = below(4096), i;

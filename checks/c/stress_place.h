@@ -7,7 +7,7 @@
 #include <string.h>
 #include <sys/mman.h>
 
-/* How many calls there were. */
+/* The number of calls. */
 static unsigned long calls;
 
 /* ---- chance ---- */
@@ -47,7 +47,7 @@ static void make_places(void)
     memset(list_place, 0x5a, LIST_PLACE);
 }
 
-/* The octets at one end of their place. */
+/* The octets at one end of their buffer. */
 static const uint8_t *placed(const uint8_t *from, size_t len)
 {
     uint8_t *octets = below(4) == 0 ? place : place + PLACE - len;
@@ -55,14 +55,14 @@ static const uint8_t *placed(const uint8_t *from, size_t len)
     return octets;
 }
 
-/* A list of so many octets at one end of its place, of which each is 0x5a. */
+/* A list of this length at one end of its buffer, each octet 0x5a. */
 static void *list_of(size_t size)
 {
     WANT(size <= LIST_PLACE);
     return below(4) == 0 ? list_place : list_place + LIST_PLACE - size;
 }
 
-/* Whether a call wrote the first octets of a list alone: mostly those close to them are looked at. They are 0x5a again behind it. */
+/* Whether a call wrote only the first octets of a list: mostly those close to them are checked. They are 0x5a again afterwards. */
 static int is_rest_unchanged(void *list, size_t wrote)
 {
     uint8_t *end = (uint8_t *)list + wrote, *stop = list_place + LIST_PLACE, *octet;

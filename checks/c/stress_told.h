@@ -1,4 +1,4 @@
-/* What calls tell of octets, for stress.c: names, fields, faults, facts, routes, what OPENs agree on, and batches. None of them allocates. */
+/* What calls report of octets, for stress.c: names, fields, faults, facts, routes, what OPENs agree on, and batches. None of them allocates. */
 #ifndef STRESS_TOLD_H
 #define STRESS_TOLD_H
 
@@ -234,7 +234,7 @@ static int are_rows(uint32_t which, const ristulva_context *context, const uint8
     }
 }
 
-/* The messages that a batch has taken one by one, and why it has taken no more. */
+/* The messages that a batch has processed, one by one, and why it has processed no more. */
 static void check_batch(uint32_t which, const ristulva_context *context, const uint8_t *octets, size_t len, const uint8_t *rows, size_t left, size_t taken,
                         ristulva_status status, size_t unused)
 {
@@ -292,7 +292,7 @@ static void try_batches(const ristulva_context *context, const uint8_t *from, si
         try_batch(which, context, octets, len);
 }
 
-/* The message with the most routes: 4073 times the prefix of no octets, withdrawn or, behind attributes that are missing, treated so. */
+/* The message with the most routes: 4073 times the prefix of no octets, withdrawn or, with missing attributes, treated so. */
 static void try_most_routes(uint8_t *octets)
 {
     const ristulva_context context = {0, 1, 1, 1};

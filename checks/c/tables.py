@@ -1,9 +1,9 @@
 #!/usr/bin/env python3
-"""tables.py PROGRAM FOLDER: whether `ristulva.table` tells of each stream in a folder what `PROGRAM show --json` prints of it.
+"""tables.py PROGRAM FOLDER: whether `ristulva.table` has of each stream in a folder what `PROGRAM show --json` prints of it.
 
 FOLDER/streams.json lists the streams: of each its name, the flags of its context, its file there, and whether it is tried many times over too. Routes,
-origin AS, places of values, numbers of paths, communities and large communities have to be those of the objects, in their order, in whatever room they
-are read; and so has what ends the stream. What AS_PATH and AS4_PATH give together is reckoned here once more, from the objects (RFC 6793, section 4.2.3).
+origin AS, spans of values, numbers of paths, communities and large communities have to be those of the objects, in their order, in whatever room they
+are read; and so has what ends the stream. What AS_PATH and AS4_PATH give together is computed here once more, from the objects (RFC 6793, section 4.2.3).
 
 `check` runs it, by a Python that has numpy. The last line counts: N passed, M failed."""
 import ipaddress
@@ -18,7 +18,7 @@ from ristulva import tables
 
 AS_TRANS = 23456
 ROOMS = (0, 4073, 4074, 9000)
-# So many rows aren't read in the least room at one go.
+# More rows than are read in the least room at one go.
 MANY = 9000
 
 
@@ -43,7 +43,7 @@ def items(path):
 
 
 def origin_of(path):
-    """The AS that a route came from, or None."""
+    """The origin AS of a route, or None."""
     return path[-1][1][-1] if path and not path[-1][0] else None
 
 
@@ -95,7 +95,7 @@ def in_order(routes):
 
 
 def same_places(table, octets, objects):
-    """Whether the places in rows are those of the values that the objects have; none of what is withdrawn."""
+    """Whether the spans in rows are those of the objects' values; none of what is withdrawn."""
     by_place, width = {it["place"]: it for it in objects[:-1]}, 4 if table.context.as4 else 2
     names = ("as_path", "as4_path", "communities", "large_communities")
     for place, is_announced, *places in zip(*(table.routes[name].tolist() for name in ("message", "announced", *names))):
@@ -114,7 +114,7 @@ def in_octets(numbers, width):
 
 
 def same_end(table, warned, octets, objects):
-    """Whether a table tells what the last objects do."""
+    """Whether a table has what the last objects have."""
     end = objects[-1]
     last = objects[-2] if len(objects) > 1 else {}
     if end["end"] == "wait":
@@ -168,7 +168,7 @@ def many(octets, context, wanted):
         return []
     whole, wrong = tables.view_of(octets * times), []
     for kind, rows in wanted.items():
-        # Each row of the second time is that of the first, behind as many octets.
+        # Each row of the second time is that of the first, at an offset of the stream's length.
         expected = [(place + turn * len(octets), *row) for turn in range(times) for place, *row in rows]
         expected = in_order(expected) if kind == "routes" else expected
         wrong += [f"{kind}, {times} times, in room {room}" for room in (0, 4073) if rows_of(kind, tables.read(kind, whole, context, room).rows) != expected]

@@ -22,7 +22,7 @@ class Loss:
         self.place = scenes.AFTER + len(scenes.SOUND) * len(sound)
         it = scenes.up(numbers=(chance.randrange(1 << 32), chance.randrange(1 << 32)))
         it.say("A", *sound).say("A", octets, size=chance.choice([1448, 30])).say("B", scenes.notification(3, chance.choice([1, 5, 10])))
-        # The NOTIFICATION, before what acknowledges it, and one SYN are there.
+        # The NOTIFICATION, before what acknowledges it, and one SYN are present.
         kept = {0, len(it.packets) - 2}
         self.rate, self.snap = chance.choice([0, 0.1, 0.3, 0.6]), chance.choice([65535, 65535, 90, 62])
         packets = [one for n, one in enumerate(it.packets) if n in kept or chance.random() >= self.rate]
@@ -30,7 +30,7 @@ class Loss:
         self.file = pcap(packets, snap=self.snap)
 
     def wrong(self, told):
-        """What is wrong with what is told."""
+        """What is wrong with what is printed."""
         found = re.search(rf"for {re.escape(scenes.A)}'s .* at octet (\d+);", told)
         if found and int(found[1]) != self.place:
             return [f"{found[1]} in place of {self.place}"]

@@ -72,11 +72,11 @@ class Connection:
 
 
 def unreachable(packet, source):
-    """What a router says of a packet that it can't hand on: ICMP, destination unreachable, code 13."""
+    """A router's answer to a packet that it can't forward: ICMP, destination unreachable, code 13."""
     return of_ip(source, str(ipaddress.ip_address(packet[12:16])), 1, struct.pack(">BBHI", 3, 13, 0, 0) + packet[:28])
 
 
-# What stands before a packet on each link, with its type in a file: Ethernet, with a tag of 802.1Q, with two, as Linux captures of "any" in both forms.
+# What precedes a packet on each link, with its type in a file: Ethernet, with a tag of 802.1Q, with two, as Linux captures of "any" in both forms.
 def kind_of(packet):
     return b"\x08\x00" if packet[0] >> 4 == 4 else b"\x86\xdd"
 
@@ -93,7 +93,7 @@ LINKS = {
 
 
 def pcap(packets, link="raw", snap=65535, order="<", is_nano=False):
-    """A file of pcap. Of each packet so many octets are kept."""
+    """A file of pcap. Each packet is cut to this length."""
     number, wrap = LINKS[link]
     found = bytearray(struct.pack(f"{order}IHHiIII", 0xA1B23C4D if is_nano else 0xA1B2C3D4, 2, 4, 0, 0, snap, number))
     for time, packet in packets:

@@ -14,7 +14,7 @@ from packets import ACK, FIN, RST, SYN, Connection, pcap, pcapng
 
 TOP = pathlib.Path(__file__).resolve().parent.parent.parent
 
-# A capture: its name, what happened, its file, the lines that have to be told (the first one stands in the table), what may not be told (a regular
+# A capture: its name, what happened, its file, the lines that have to be printed (the first one is in the table), what may not be printed (a regular
 # expression), the status, and more words for the script.
 Scene = collections.namedtuple("Scene", "name happened file told never status words")
 SCENES = []
@@ -75,7 +75,7 @@ def shut_down(**more):
     return up(b=SHUTDOWN, **more).end("B")
 
 
-# After 17 seconds it is said: four OPENs and KEEPALIVEs, 6 messages of GoBGP, 7 of OpenBGPD.
+# It is sent after 17 seconds: four OPENs and KEEPALIVEs, 6 messages of GoBGP, 7 of OpenBGPD.
 SHUT = (f'ended 2023-11-14 22:13:37.000: {B} sent NOTIFICATION 6/2 (Cease: Administrative Shutdown), data 166d6f76696e6720746865207261636b20c3a4c3b6c3bc, '
         'which says "moving the rack äöü"')
 
@@ -241,7 +241,7 @@ def gaps():
            "of which octets are missing"], never=r"at octet \d+;")
     scene("cut at 30 octets", "of each packet not even TCP's head", pcap(up().packets, snap=30),
           [f"no BGP can be read: {len(up().packets)} packets of TCP port 179 are cut inside their headers (snap length)"], status=1)
-    # All in one segment, and the first 100 octets of it were sent before the capture: it begins inside GoBGP's first UPDATE, of which 66 are left.
+    # All in one segment, and the first 100 octets of it were sent before the capture: it begins inside GoBGP's first UPDATE, of which 66 remain.
     it = Connection().open()
     it.next["A"] += 100
     it.say("A", b"".join(GOBGP)[100:] + OF_FIVE).say("B", notification(3, 5, FIVE))

@@ -1,5 +1,5 @@
-// A connection that changes an octet: LD_PRELOAD puts this before the C library's calls that receive. The first octets that come over a socket
-// begin with another one than was sent. strace can't do that: it changes what a call answers, and not what it hands over.
+// A connection that changes an octet: LD_PRELOAD puts this before the C library's calls that receive. The first octets that arrive over a socket
+// begin with another one than was sent. strace can't do that: it changes what a call answers, and not the octets it gives.
 #define _GNU_SOURCE
 #include <dlfcn.h>
 #include <sys/socket.h>

@@ -31,7 +31,7 @@ enum { CALLS(NUMBER) LAST };
 static struct call calls[] = {CALLS(ROW)};
 static int met;
 
-// What becomes of the next call of a name.
+// The result of the next call of a name.
 static enum how next_of(int which) {
     const char *fail = getenv("FAIL");
     struct call *call = &calls[which];

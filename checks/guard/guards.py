@@ -1,4 +1,4 @@
-"""Runs of the guard's program and of what stands at its two sides: bgp_speaker, and peers that a script plays."""
+"""Runs of the guard's program and of what is at its two sides: bgp_speaker, and peers that a script plays."""
 import json
 import pathlib
 import socket
@@ -10,7 +10,7 @@ import time
 sys.path.insert(0, str(pathlib.Path(__file__).resolve().parent.parent / "interop"))
 import messages
 
-# The programs: who imports this says where they are.
+# The programs: the importing script sets their paths.
 GUARD = None
 SPEAKER = None
 

@@ -1,4 +1,4 @@
-"""The daemons: how each is set up on loopback, asked, and told to end the session. Each speaks at 127.0.0.2, and ours at 127.0.0.1."""
+"""The daemons: how each is set up on loopback, queried, and made to end the session. Each speaks at 127.0.0.2, and ours at 127.0.0.1."""
 import concurrent.futures
 import json
 import pathlib
@@ -164,7 +164,7 @@ class Frr(Daemon):
 
 class OpenBgpd(Daemon):
     name, command, package = "OpenBGPD", "bgpctl", "openbgpd"
-    # Version 7.7 ends the session as RFC 4271, section 6.3, has it, where RFC 7606 asks for a withdrawal.
+    # Version 7.7 ends the session as in RFC 4271, section 6.3, where RFC 7606 asks for a withdrawal.
     origin_answer = "3/6"
 
     def configure(self):

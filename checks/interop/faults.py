@@ -1,4 +1,4 @@
-"""UPDATEs and messages at fault, each with a name: what a peer that misbehaves sends behind the KEEPALIVEs."""
+"""UPDATEs and messages at fault, each with a name: what a peer that misbehaves sends after the KEEPALIVEs."""
 import messages
 from messages import attribute, message, path, prefix, update
 
@@ -77,7 +77,7 @@ OUTLIVED = {
     "a family that wasn't offered": with_more(reach(b"\x00\x19\x41\x04\xc0\x00\x02\x02\x00\x00")),
 }
 
-# Those that end it, with the NOTIFICATION that is asked for.
+# Those that end it, with the required NOTIFICATION.
 ENDING = {
     "a well-known attribute 99": (with_more(attribute(0x40, 99, b"\x00")), (3, 2)),
     "two MP_REACH_NLRI": (with_more(reach(b"\x00\x01\x01\x04\xc0\x00\x02\x02\x00") * 2), (3, 1)),
@@ -108,7 +108,7 @@ def opening(version=4, hold=90, identifier=b"\xc0\x00\x02\x02", parameters=b""):
     return message(messages.OPEN, bytes([version]) + ASN.to_bytes(2, "big") + hold.to_bytes(2, "big") + identifier + bytes([len(parameters)]) + parameters)
 
 
-# Those that come in place of the OPEN, with the NOTIFICATION that is asked for.
+# Those that are sent instead of the OPEN, with the required NOTIFICATION.
 OPENINGS = {
     "an OPEN of version 3": (opening(version=3), (2, 1)),
     "an OPEN with a Hold Time of 1": (opening(hold=1), (2, 6)),

@@ -41,7 +41,7 @@ def update(attributes, nlri=b"", withdrawn=b""):
 
 
 def announce4(routes, asns, hop, origin=0):
-    """UPDATEs that announce IPv4 routes, as many in each as there is room for."""
+    """UPDATEs that announce IPv4 routes, as many in each as fit."""
     attributes = attribute(0x40, 1, bytes([origin])) + path(asns) + attribute(0x40, 3, ipaddress.ip_address(hop).packed)
     return [update(attributes, b"".join(map(prefix, routes[at : at + 500]))) for at in range(0, len(routes), 500)]
 

@@ -1,4 +1,4 @@
-"""Peers that a script plays: one that says what it is told to, and one between two speakers that puts messages of its own into a stream."""
+"""Peers that a script plays: one that sends what it is given, and one between two speakers that inserts messages of its own into a stream."""
 import socket
 import threading
 
@@ -6,7 +6,7 @@ import messages
 
 
 class Standing:
-    """How a session stands for a side that does no more than answer an OPEN: whether it is up or over, and the NOTIFICATION that came."""
+    """The state of a session for a side that does no more than answer an OPEN: whether it is up or over, and the received NOTIFICATION."""
 
     def __init__(self):
         self.notification, self.is_over, self.is_up = None, False, False
@@ -23,7 +23,7 @@ class Standing:
 
 
 class Peer:
-    """Accepts one connection, speaks up to Established, then sends octets, and keeps what came."""
+    """Accepts one connection, speaks up to Established, then sends octets, and keeps what arrived."""
 
     def __init__(self, asn, identifier, said, hold=90, early=None):
         self.asn, self.identifier, self.said, self.hold, self.early = asn, identifier, said, hold, early
@@ -76,7 +76,7 @@ class Peer:
 
 
 class Between:
-    """Hands on what goes from one speaker to the other. Once both have said KEEPALIVE, it puts messages into the stream of ours."""
+    """Forwards what goes from one speaker to the other. Once both have sent KEEPALIVE, it inserts messages into the stream of ours."""
 
     def __init__(self, target, ours_connects, listen="127.0.0.1", source=None, port=0):
         self.target, self.ours_connects, self.source = target, ours_connects, source
@@ -140,6 +140,6 @@ class Between:
                 pass
 
     def put(self, octets):
-        """Puts messages into the stream of our speaker, between two of its own."""
+        """Inserts messages into the stream of our speaker, between two of its own."""
         with self.lock:
             self.far.sendall(octets)

@@ -1,4 +1,4 @@
-"""What goes over ports of loopback, recorded by tcpdump, and what contrib/why says of it."""
+"""The traffic over ports of loopback, recorded by tcpdump, and what contrib/why says of it."""
 import pathlib
 import signal
 import subprocess

@@ -1,4 +1,4 @@
-"""The daemons with several passive neighbours each, at 127.0.0.2, and sinks among them that are told every route."""
+"""The daemons with several passive neighbours each, at 127.0.0.2, and sinks among them that are sent every route."""
 import contextlib
 import os
 import pathlib
@@ -14,7 +14,7 @@ from daemons import THEIR_AS, THEIRS
 from peers import Standing
 
 HOLD = 90
-# Neighbours that are told of every route, their AS, and whether they have AS numbers of four octets.
+# Neighbours that are sent every route, their AS, and whether they have 4-octet AS numbers.
 SINKS = {"127.0.0.13": (65003, True), "127.0.0.14": (65004, False), "127.0.0.15": (THEIR_AS, True)}
 
 
@@ -180,7 +180,7 @@ class GoBgp(Several, daemons.GoBgp):
         return route in self.control("global", "rib", route)
 
     def wake(self, address):
-        """It comes back by itself after a second."""
+        """It comes up again by itself after a second."""
 
 
 ALL = {"bird": Bird, "frr": Frr, "openbgpd": OpenBgpd, "gobgp": GoBgp}
@@ -195,7 +195,7 @@ def opening(asn, identifier, four=True):
 
 
 class Link(Standing):
-    """A peer's session, read by a thread of its own, which wakes who waits for something."""
+    """A peer's session, read by a thread of its own, which wakes the threads that wait for something."""
 
     def __init__(self, to, source, opened, tells=None):
         super().__init__()
@@ -251,7 +251,7 @@ class Link(Standing):
 
 def come_up(to, source, opened, wake, tells=None, seconds=40):
     """A link that is up, or none: a daemon may hold back for a while after an error. `wake` is called now and then."""
-    # GoBGP takes a connection that it then has no answer for: a short wait at first, and longer ones for who is slow.
+    # GoBGP accepts a connection that it then doesn't answer: a short wait at first, and longer ones for a slow machine.
     end, woken, patience = time.monotonic() + seconds, time.monotonic() - 1.5, 0.7
     while time.monotonic() < end:
         try:

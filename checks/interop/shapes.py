@@ -36,7 +36,7 @@ def body_of(withdrawn, attributes, nlri):
 
 
 def room_of(withdrawn=b"", attributes=b"", nlri=b""):
-    """How many octets are free below the most that a message has."""
+    """The octets that are free below the most that a message has."""
     return MOST - 19 - len(body_of(withdrawn, attributes, nlri))
 
 
@@ -67,7 +67,7 @@ class Draw:
         return b"".join(self.one6() for _ in range(count or self.random.choice((1, 1, 2, 5, 20))))
 
     def filled(self, one, room):
-        """As many prefixes as there is room for, with not an octet left."""
+        """As many prefixes as fit, without an octet to spare."""
         found = b""
         while len(found) < room:
             more = one()
@@ -105,7 +105,7 @@ class Draw:
         return attribute(0x40, 5, struct.pack(">I", 100)) if self.mode == INTERNAL else b""
 
     def sound(self, hop="192.0.2.2"):
-        """Attributes of a route that nobody has anything against."""
+        """Attributes of a valid route."""
         return self.origin() + self.usual_path() + (self.hop(hop) if hop else b"") + self.preference()
 
     def communities(self, count):
@@ -269,7 +269,7 @@ class Draw:
         yield "MP_REACH_NLRI of IPv6 with a path of 500 ASes", self.update(self.origin() + self.path(*long(500)) + self.preference() + self.reach6(self.some6(1)))
 
     def many(self):
-        """Communities, as many as there are."""
+        """Communities, as many as given."""
         for count in (1, 100, 254, 500, 757, 900, 990):
             yield f"{count} communities", self.update(self.sound() + self.communities(count), self.some4(1))
         for count in (1, 21, 100, 250, 330):
@@ -317,7 +317,7 @@ class Draw:
         yield "an IPv6 route of 4096 octets by communities", self.update(basis + self.communities(count) + self.reach6(self.one6(128)))
 
     def unknowns(self):
-        """Attributes of types that nobody knows, or that few do."""
+        """Attributes of types that are unassigned, or rare."""
         for flags in (0xC0, 0x80, 0xE0, 0xF0):
             for size in (0, 1, 255, 256, 3000):
                 kind = self.random.choice((19, 99, 130, 200, 254, 255, 0))
@@ -346,7 +346,7 @@ class Draw:
         yield "withdrawals of a VPN family", self.update(attribute(0x80, 15, b"\x00\x01\x80" + self.random.randbytes(20)))
 
     def prefixes(self):
-        """Prefixes that stand out."""
+        """Prefixes of unusual lengths and values."""
         same, other = self.one4(), self.one6()
         four = {
             "0.0.0.0/0": b"\x00", "0.0.0.0/1": b"\x01\x00", "0.0.0.0/8": b"\x08\x00", "0.0.0.0/32": b"\x20" + bytes(4), "127.0.0.0/8": b"\x08\x7f", "224.0.0.0/4": b"\x04\xe0",
@@ -367,7 +367,7 @@ class Draw:
         yield "a withdrawal of what isn't there", self.update(b"", b"", prefix("203.0.112.0/25"))
 
     def odd(self):
-        """Flags, orders and lengths that are allowed or that a hearer forgives."""
+        """Flags, orders and lengths that are allowed or that a receiver forgives."""
         parts = [self.origin(), self.usual_path(), self.hop(), attribute(0x80, 4, bytes(4)), self.communities(2), self.aggregator()] + [self.preference()] * (self.mode == INTERNAL)
         self.random.shuffle(parts)
         yield "attributes in another order", self.update(b"".join(parts), self.some4())
@@ -475,7 +475,7 @@ class Draw:
 
 
 def drawn(random, mode, count):
-    """Pairs of a name and an UPDATE: each shape, and random ones, so many in all at least."""
+    """Pairs of a name and an UPDATE: each shape, and random ones, at least this number in all."""
     draw = Draw(random, mode)
     groups = [draw.mixed, draw.routeless, draw.hops, draw.paths, draw.many, draw.full, draw.unknowns, draw.ends, draw.prefixes, draw.odd, draw.preferences]
     if mode == TWO_OCTETS:

@@ -1,4 +1,4 @@
-"""A run of our program, and when it says something."""
+"""A run of our program, and when it prints something."""
 import concurrent.futures
 import ipaddress
 import socket
@@ -8,7 +8,7 @@ import time
 import peers
 from daemons import HOLD, OUR_AS, OURS, THEIR_AS, THEIRS
 
-# The program bgp_speaker: who imports this says where it is.
+# The program bgp_speaker: the importing script sets its path.
 PROGRAM = None
 
 
@@ -84,7 +84,7 @@ def address_of(daemon):
 
 
 def come_up(start, seconds=90):
-    """Starts a run until its session comes up: a daemon may hold back for a while behind an error."""
+    """Starts a run until its session comes up: a daemon may hold back for a while after an error."""
     end = time.monotonic() + seconds
     while True:
         speaker = start()
@@ -97,7 +97,7 @@ def come_up(start, seconds=90):
 
 
 def between(daemon):
-    """A session with a script on its way: that, the run of our program, and whether the session came up."""
+    """A session through a script: that, the run of our program, and whether the session came up."""
     ways = []
 
     def start():

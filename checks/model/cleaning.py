@@ -1,4 +1,4 @@
-"""What `bgp clean` hands on of a stream, and what a hearer learns of a message. Written from docs/USAGE.md and docs/DECISIONS.md, not from the crates."""
+"""What `bgp clean` passes on of a stream, and what a receiver learns from a message. Written from docs/USAGE.md and docs/DECISIONS.md, not from the crates."""
 from wire import *
 
 
@@ -53,7 +53,7 @@ def cleaned_open(is_first, field, hold, identifier, capabilities):
 
 
 def announcement(context, left, hop, reach, nlri):
-    """An UPDATE that announces routes of one field, with the attributes that are left but for those that carry routes."""
+    """An UPDATE that announces routes of one field, with the remaining attributes but for those that carry routes."""
     kept = {kind: it for kind, it in left.items() if kind not in (NEXT_HOP, MP_REACH, MP_UNREACH)}
     if hop is not None:
         kept[NEXT_HOP] = hop
@@ -68,7 +68,7 @@ def end_of(context, family):
 
 
 def cleaned_update(context, drops, refuses, body, withdrawn, kept, nlri):
-    """The messages that stand for an UPDATE (RFC 7606, section 5.1): what is gone, NLRI, MP_REACH_NLRI, routes of IPv4 in the classic fields."""
+    """The messages that replace an UPDATE (RFC 7606, section 5.1): withdrawn routes, NLRI, MP_REACH_NLRI, IPv4 routes in the classic fields."""
     family = ended_family(context, body)
     if family is not None:
         return end_of(context, family)
@@ -102,7 +102,7 @@ def withdrawal(context, routes):
 
 
 def cleaned(context, drops, is_first, octets, refuses=nothing):
-    """The octets of what is handed on of a message, or None and why."""
+    """The octets of what is passed on of a message, or None and why."""
     name, *parts = outcome(context, octets[18], octets[19:])
     if name == "reset":
         return None, f"reset {parts[0]}/{parts[1]}"
@@ -116,7 +116,7 @@ def cleaned(context, drops, is_first, octets, refuses=nothing):
 
 
 def cleaned_stream(context, drops, octets):
-    """What is written, and the place and the words where it ends before the stream does, or None."""
+    """What is written, and the offset and the reason where it ends before the stream does, or None."""
     found, rest, fault = frames(octets)
     written = b""
     for at, one in found:
@@ -130,7 +130,7 @@ def cleaned_stream(context, drops, octets):
 
 
 def lesson(context, drops, octets):
-    """What a hearer learns of a message that isn't answered by a reset (RFC 7606). IPv4 routes are the same in NLRI by NEXT_HOP and in MP_REACH_NLRI."""
+    """What a receiver learns from a message that isn't answered by a reset (RFC 7606). IPv4 routes are the same in NLRI by NEXT_HOP and in MP_REACH_NLRI."""
     name, *parts = outcome(context, octets[18], octets[19:])
     if name == "open":
         wide = [it[1] for it in parts[3] if it[0] == "as4"]
@@ -150,7 +150,7 @@ def lesson(context, drops, octets):
 
 
 def lessons(context, drops, messages):
-    """What a hearer learns of messages that stand for one."""
+    """What a receiver learns from messages that replace one."""
     found = [lesson(context, drops, it) for it in messages]
     if len(found) == 1:
         return found[0]

@@ -1,4 +1,4 @@
-"""What the commands of bgp print: each gives what is written, what is told on standard error, and the status."""
+"""What the commands of bgp print: each gives what is written, what is printed on standard error, and the status."""
 from cleaning import cleaned_stream
 from wire import *
 
@@ -106,7 +106,7 @@ def text(lines):
 
 
 def octets_in(digits):
-    """The octets of the pairs before the first bad character, and its place, or None."""
+    """The octets of the pairs before the first bad character, and its offset, or None."""
     found, at = bytearray(), 0
     while at < len(digits):
         if digits[at] in b" \r\n":
@@ -126,7 +126,7 @@ def told(words):
 
 
 def report(context, given, is_hex, lines_of):
-    """The outcome of show or check: lines_of gives the lines in front of the end's, and those that a bad character leaves standing."""
+    """The outcome of show or check: lines_of gives the lines before the end's, and those that remain before a bad character."""
     octets, bad = octets_in(given) if is_hex else (given, None)
     outcomes, end = seen(context, octets)
     lines, standing = lines_of(outcomes)
@@ -205,7 +205,7 @@ def agreed(ours, theirs):
     wide = [[it[1] for it in said[3] if it[0] == "as4"] for said in (ours, theirs)]
     numbers = [(its or [said[0]])[0] for its, said in zip(wide, (ours, theirs))]
     families = [all(("multi", afi, 1) in said[3] for said in (ours, theirs)) for afi in (1, 2)]
-    # A speaker without the capability sees My Autonomous System, where AS_TRANS is no number of its own (RFC 6793, section 4.1).
+    # A speaker without the capability sees My Autonomous System, where AS_TRANS isn't a number of its own (RFC 6793, section 4.1).
     seen_alike = ours[0] == theirs[0] and (ours[0] != AS_TRANS or numbers[0] == numbers[1])
     return Context(numbers[0] == numbers[1] if all(wide) else seen_alike, all(wide), *families)
 

@@ -1,4 +1,4 @@
-"""The guard between two speakers: what each event does, and what it asks of its owner. Written from docs/GUARD.md, not from the crate."""
+"""The guard between two speakers: what each event does, and what it requires of its owner. Written from docs/GUARD.md, not from the crate."""
 from cleaning import cleaned, nothing
 from commands import agreed
 from wire import *
@@ -24,7 +24,7 @@ class Side:
         self.open = None
         self.is_ready = False
         self.way = b""
-        # For how many seconds of an established session nothing was handed on to it, and whether something was dropped since.
+        # For how many seconds of an established session nothing was passed on to it, and whether something was dropped since.
         self.quiet = 0
         self.is_owed = False
 
@@ -32,19 +32,19 @@ class Side:
 class Guard:
     def __init__(self, drops, is_one_way, is_first_own=False, first_as=None):
         self.drops, self.is_one_way = drops, is_one_way
-        # Whether an external neighbour's paths begin with its own AS, and the AS that the owner gives in its place.
+        # Whether an external neighbour's paths begin with its own AS, and the AS that the owner gives instead.
         self.is_first_own, self.first_as = is_first_own, first_as
         self.sides = {OUTER: Side(), INNER: Side()}
         self.gone = 0
-        # The seconds that are left once it has ended.
+        # The remaining seconds once it has ended.
         self.left = None
-        # What came of octets, in words.
+        # The result of octets, in words.
         self.words = []
-        # What came of each side, and what was put on its way, for the law.
+        # What each side sent, and what was queued for it, for the law.
         self.came = {OUTER: b"", INNER: b""}
         self.put = {OUTER: b"", INNER: b""}
         self.own = {OUTER: b"", INNER: b""}
-        # Where its own KEEPALIVEs stand in what was put.
+        # The positions of its own KEEPALIVEs in what was queued.
         self.own_keepalives = {OUTER: [], INNER: []}
 
     def tell(self, name, octets, is_own=False):
@@ -78,7 +78,7 @@ class Guard:
         return min(it[1] for it in opens) if all(opens) else 0
 
     def refuses(self, name):
-        """Which announcements of a side go on as withdrawals: those whose AS_PATH doesn't begin with a sequence from its AS (RFC 4271, section 6.3)."""
+        """Which announcements of a side are passed on as withdrawals: those whose AS_PATH doesn't begin with a sequence from its AS (RFC 4271, section 6.3)."""
         context, said = self.context(name), self.sides[name].open
         wanted = self.first_as
         if wanted is None and self.is_first_own and said and not context.internal:

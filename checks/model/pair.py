@@ -50,7 +50,7 @@ class Session:
         return stops + flushes
 
     def hold_on(self):
-        """The hold timer begins anew, where there is one."""
+        """The hold timer is restarted, where there is one."""
         return [("does", f"arm hold {self.context.hold}")] * bool(self.context.hold)
 
     def end(self, fault):
@@ -98,7 +98,7 @@ class Session:
         return []
 
     def hear(self, octet):
-        """Takes an octet, and judges what is held where it is whole."""
+        """Consumes an octet, and judges what is held where it is whole."""
         if self.state not in UP:
             return []
         self.held += octet
@@ -148,7 +148,7 @@ class Session:
 
 
 def words_of(action):
-    """An action as a trace has it; the octets of a NOTIFICATION go with its code."""
+    """An action as in a trace; the octets of a NOTIFICATION go with its code."""
     if isinstance(action, str):
         return {"close": "close", "heard": "announce", "withdrawn": "withdraw"}[action]
     if action[0] == "told":
@@ -269,7 +269,7 @@ def decimal(word, most):
 
 
 def config_of(words):
-    """The configuration behind a side's letter, or None."""
+    """The configuration of a side's letter, or None."""
     found = re.fullmatch("as ([0-9]+) peer ([0-9]+) id ([0-9.]+) hold ([0-9]+)( as4)?( ip4)?( ip6)?", words)
     if not found:
         return None

@@ -1,6 +1,6 @@
-"""BGP-4 messages: what their octets come to, and how they are written. A model, for comparison: no speed, no streams in pieces.
+"""BGP-4 messages: the outcome of their octets, and how they are written. A model, for comparison: no speed, no streams in pieces.
 
-Written from the rules that docs/made/ATTRIBUTES.md, docs/made/DEFINITIONS.md and docs/DECISIONS.md tell, and not from the crates.
+Written from the rules that docs/made/ATTRIBUTES.md, docs/made/DEFINITIONS.md and docs/DECISIONS.md state, and not from the crates.
 """
 from dataclasses import dataclass
 
@@ -220,7 +220,7 @@ def judge(context, has_nlri, flags, kind, value, whole):
 
 
 def attributes(field):
-    """The attributes as (place, flags, type, value, whole), and the place where no other one begins."""
+    """The attributes as (offset, flags, type, value, whole), and the offset where no other one begins."""
     found, at = [], 0
     while True:
         head = 4 if at < len(field) and field[at] & 0x10 else 3
@@ -234,7 +234,7 @@ def attributes(field):
 
 
 def marks_of(context, field, has_nlri):
-    """What of the attribute field is discarded, in order, what is kept by type, and the types that stand there."""
+    """What of the attribute field is discarded, in order, what is kept by type, and the types that occur."""
     found, end = attributes(field)
     marks, kept, seen = [], {}, set()
     for at, flags, kind, value, whole in found:
@@ -293,7 +293,7 @@ def outcome(context, kind, body):
 
 
 def frames(octets):
-    """Each message of a stream as (place, octets), and then the place of the rest and the fault of its header, or None."""
+    """Each message of a stream as (offset, octets), and then the offset of the rest and the fault of its header, or None."""
     found, at = [], 0
     while len(octets) - at >= 19:
         fault = head_fault(octets[at : at + 19])
@@ -306,7 +306,7 @@ def frames(octets):
 
 
 def seen(context, octets):
-    """Each outcome as (place, octets of the message or none, outcome), and the end: "head", "reset", or how many octets wait."""
+    """Each outcome as (offset, octets of the message or none, outcome), and the end: "head", "reset", or the length of an incomplete message."""
     found, rest, fault = frames(octets)
     outcomes = []
     for at, octets_of in found:

@@ -41,7 +41,7 @@ def unsaid(folder):
 
 
 def page_faults(root):
-    """Files of the system that manual pages name, and that aren't there."""
+    """Files of the system that manual pages name, and that don't exist."""
     for page in sorted(root.glob("usr/share/man/man*/*")):
         for path in re.findall(r"^\.I (/usr/share/doc/\S+)", text_of(page), re.M):
             if not (root / path.lstrip("/")).exists():
@@ -69,7 +69,7 @@ def runs_alone(asked, written):
 
 
 def as_shown(printed, lines):
-    """Whether what was printed is what a document shows, in which `..` stands for some lines, or for some of a line."""
+    """Whether what was printed is what a document shows, in which `..` replaces some lines, or for some of a line."""
     lines = [line.rstrip() for line in lines]
     pattern = "".join(r"(?:.*\n)*?" if line.strip() == ".." else re.escape(line).replace(re.escape(".."), ".*") + r" *\n" for line in lines)
     return re.fullmatch(pattern, printed) is not None

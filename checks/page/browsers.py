@@ -1,4 +1,4 @@
-"""Browsers without a window, which are told what to do: Chromium by the protocol of its tools, over a pipe; Firefox by Marionette, over TCP on loopback."""
+"""Browsers without a window, under control: Chromium by the protocol of its tools, over a pipe; Firefox by Marionette, over TCP on loopback."""
 import json
 import os
 import pathlib
@@ -7,7 +7,7 @@ import subprocess
 import threading
 import time
 
-# After so many seconds a browser is ended, whatever it does.
+# After this many seconds a browser is ended, whatever it does.
 LONGEST = 180
 
 # Whether the page is ready, or says that it can't be.
@@ -24,7 +24,7 @@ def wait_for(browser):
 
 
 class Chromium:
-    """A Chromium without a window, which is told what to do over a pipe, by the protocol of its tools."""
+    """A Chromium without a window, controlled over a pipe by the protocol of its tools."""
 
     def __init__(self, program, folder):
         (ours, theirs), (answers, asks) = os.pipe(), os.pipe()
@@ -48,7 +48,7 @@ class Chromium:
             self.ask(name)
 
     def read(self):
-        """The next thing that the browser says."""
+        """The browser's next message."""
         while b"\0" not in self.held:
             more = os.read(self.answers.fileno(), 1 << 20)
             if not more:
@@ -125,7 +125,7 @@ class Firefox:
         raise RuntimeError("Firefox doesn't start")
 
     def read(self):
-        """The next thing that the browser says: its length, a colon, and JSON."""
+        """The browser's next message: its length, a colon, and JSON."""
         while True:
             size, colon, rest = self.held.partition(b":")
             if colon and len(rest) >= int(size):

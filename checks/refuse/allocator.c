@@ -1,5 +1,5 @@
 // An allocator that refuses one allocation: LD_PRELOAD puts it before the C library's, and REFUSE says which, counted from 1. At the end it
-// prints on standard error how many there were.
+// prints on standard error their number.
 #define _GNU_SOURCE
 #include <dlfcn.h>
 #include <stdio.h>
@@ -7,7 +7,7 @@
 
 static unsigned long asked;
 
-// Whether the allocation that is asked for is the one to refuse.
+// Whether the requested allocation is the one to refuse.
 static int is_refused(void) {
     const char *which = getenv("REFUSE");
     return which != NULL && strtoul(which, NULL, 10) == ++asked;

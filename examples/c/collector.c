@@ -10,18 +10,18 @@
  *
  * It connects to each peer. With an address of its own (-l) it connects from there, and listens there too, at PORT, which is 179; at `::` it
  * listens for both families. With -n it waits for its peers to connect. So it does for a peer whose PEER_AS is `*`, which may have any AS
- * number: its OPEN tells it. KEY is one for TCP MD5 signatures (RFC 2385), and -t wants all peers one hop away (RFC 5082). A session
+ * number: its OPEN has it. KEY is one for TCP MD5 signatures (RFC 2385), and -t wants all peers one hop away (RFC 5082). A session
  * that ended is started again after SECONDS, which are 5, and one that lost its connection before the OPEN came seeks another then: where
  * both sides connected at once, each had refused the other's. An UPDATE that is treated as a withdrawal withdraws all its routes (RFC 7606,
  * section 2), and with a session all routes of its peer are gone. On a session with AS numbers of two octets a path is printed as it came.
- * `down` tells which NOTIFICATION was sent or received, or that the connection was lost.
+ * `down` names which NOTIFICATION was sent or received, or that the connection was lost.
  *
- * What nobody reads of standard output waits in memory, and no session for it; behind 16 MB lines are left out, and counted.
+ * What is not yet read of standard output is kept in memory, and no session waits for it; after 16 MB lines are dropped, and counted.
  *
- * At SIGINT and SIGTERM it prints a table of what it counted, stops each session, and ends with 0. With -m it tells the peers TEXT, as an
+ * At SIGINT and SIGTERM it prints a table of what it counted, stops each session, and ends with 0. With -m it sends the peers TEXT, as an
  * administrative shutdown (RFC 9003), of 255 octets of UTF-8 at most. It ends with 2 for a fault of the
  * command line, and with 1 where it can't listen or wait, a write fails, or memory is lacking. Where descriptors run out, the sessions that
- * are up go on, and it tells so: a peer without one is tried again after SECONDS, and so is a connection that can't be accepted. */
+ * are up continue, and it says so: a peer without one is tried again after SECONDS, and so is a connection that can't be accepted. */
 #ifndef _DEFAULT_SOURCE
 #define _DEFAULT_SOURCE
 #endif
@@ -50,13 +50,13 @@
 #define TIMER_AGAIN 0
 #define TIMERS 4
 
-/* How long, in milliseconds, peers have to take what is said to them at the end. */
+/* How long, in milliseconds, peers have to read what they are sent at the end. */
 #define FAREWELL 2000
 
 /* How long a peer of any AS number has for its OPEN, in seconds (RFC 4271, section 8.2.2: a large Hold Time). */
 #define OPENS_WITHIN 240
 
-/* A peer's connection: none, one that is tried, one whose OPEN is awaited (its peer has any AS number), one that stands, or one that only takes
+/* A peer's connection: none, one that is tried, one whose OPEN is awaited (its peer has any AS number), one that is up, or one that only takes
  * leave (finish). */
 enum connection { NONE, TRIED, AWAITED, STANDS, ENDS };
 
@@ -70,12 +70,12 @@ struct peer {
     ristulva_context context; /* of the session that is up */
     enum connection connection;
     int fd;                            /* -1 where there is none */
-    short ready;                       /* what poll told of it */
+    short ready;                       /* what poll reported of it */
     int error;                         /* why the last try to connect failed, */
     int lack;                          /* and why it had no descriptor */
     long long due[TIMERS];             /* when each timer runs out, by now() */
     char why[24];                      /* why the session ended */
-    uint8_t in[2 * RISTULVA_MESSAGE];  /* what came and wasn't heard: a message is at most half of it */
+    uint8_t in[2 * RISTULVA_MESSAGE];  /* what came and wasn't judged: a message is at most half of it */
     uint8_t out[2 * RISTULVA_MESSAGE]; /* what the socket didn't take yet */
     size_t in_len, out_len;
     ristulva_heard heard; /* the message that `in` begins with */
@@ -88,14 +88,14 @@ static struct sockaddr_storage own; /* where it listens, and connects from */
 static socklen_t own_len;           /* 0 where it has no address of its own */
 static int listener = -1;
 static int accept_error;        /* why the last connection wasn't accepted */
-static long long accepts_again; /* when the listener is heard again; 0 where it is heard */
+static long long accepts_again; /* when the listener is polled again; 0 where it is polled */
 static unsigned long pause_seconds = 5;
 static int stopping;
 static ristulva_config config = {0, 0, {0}, 90, 1, 1, 1};
 static int waits_for_peers; /* it doesn't connect */
 static int is_near;         /* all peers are one hop away */
 static const char *key;     /* for TCP MD5 signatures: NULL for none */
-static const char *farewell; /* what peers are told at the end: NULL for nothing */
+static const char *farewell; /* what peers are sent at the end: NULL for nothing */
 static int wake[2]; /* a signal writes to it */
 
 /* Milliseconds of a clock that nobody sets. */
@@ -106,7 +106,7 @@ static long long now(void)
     return time.tv_sec * 1000LL + time.tv_nsec / 1000000;
 }
 
-/* So many seconds from now; with `jitter` up to a quarter less, so that two speakers don't meet again and again (RFC 4271, section 10). */
+/* The time this many seconds from now; with `jitter` up to a quarter less, so that two speakers don't meet again and again (RFC 4271, section 10). */
 static long long later(unsigned long seconds, int jitter)
 {
     return now() + (long long)seconds * (jitter ? 750 + rand() % 251 : 1000);
@@ -214,7 +214,7 @@ static void drop(struct peer *peer)
     peer->in_len = peer->out_len = 0;
 }
 
-/* The session goes on seeking: the peer may come here meanwhile. */
+/* The session keeps seeking: the peer may connect here meanwhile. */
 static void try_failed(struct peer *peer, int error)
 {
     int *told = error == EMFILE || error == ENFILE ? &peer->lack : &peer->error;
@@ -249,7 +249,7 @@ static void send_waiting(struct peer *peer)
     ssize_t sent = peer->out_len == 0 ? 0 : send(peer->fd, peer->out, peer->out_len, MSG_NOSIGNAL);
     if (sent < 0 && is_ready_later(errno))
         return;
-    /* Where the connection is broken, the next recv tells it. */
+    /* Where the connection is broken, the next recv reports it. */
     peer->out_len = sent < 0 ? 0 : peer->out_len - (size_t)sent;
     if (sent > 0)
         memmove(peer->out, peer->out + sent, peer->out_len);
@@ -259,7 +259,7 @@ static void send_waiting(struct peer *peer)
 
 static void put(struct peer *peer, const uint8_t *message, size_t len)
 {
-    /* A peer that takes nothing for so long is given up: the next recv tells that the connection is lost. */
+    /* A peer that reads nothing for this long is given up: the next recv reports that the connection is lost. */
     if (len > sizeof peer->out - peer->out_len) {
         shutdown(peer->fd, SHUT_RDWR);
         return;
@@ -269,7 +269,7 @@ static void put(struct peer *peer, const uint8_t *message, size_t len)
     send_waiting(peer);
 }
 
-/* Closes a connection that stands once its last octets are sent and the peer has closed it too: a socket that is closed while octets wait
+/* Closes a connection that is up once its last octets are sent and the peer has closed it too: a socket that is closed with octets unread
  * in it may take the NOTIFICATION away from the peer. */
 static void finish(struct peer *peer)
 {
@@ -291,7 +291,7 @@ static uint8_t state_of(struct peer *peer)
     return state;
 }
 
-/* Sends a NOTIFICATION of the session's, or in place of its Cease at the end one of the host's, with a text: a session sends none. */
+/* Sends a NOTIFICATION of the session's, or instead of its Cease at the end one of the host's, with a text: a session sends none. */
 static void put_notification(struct peer *peer, const ristulva_action *action, const uint8_t *message, size_t len)
 {
     uint8_t own_message[RISTULVA_MESSAGE];
@@ -343,7 +343,7 @@ static void print_up(struct peer *peer)
     say(", agreed hold %u%s%s%s\n", hold, agreed->as4 ? " as4" : "", agreed->ip4 ? " ip4" : "", agreed->ip6 ? " ip6" : "");
 }
 
-/* Tells whether a session came up or ended, and has it started again. */
+/* Prints whether a session came up or ended, and has it started again. */
 static void settle(struct peer *peer, uint8_t before)
 {
     uint8_t state = state_of(peer);
@@ -366,7 +366,7 @@ static void happens(struct peer *peer, uint32_t event)
     }
 }
 
-/* Lets a session hear the messages that are whole, until it has ended: octets have no meaning for it then. */
+/* Passes the messages that are whole to a session, until it has ended: octets have no meaning for it then. */
 static void hear(struct peer *peer)
 {
     uint8_t message[RISTULVA_MESSAGE], before = state_of(peer);
@@ -384,7 +384,7 @@ static void hear(struct peer *peer)
     }
 }
 
-/* Makes the session of a peer of any AS number once its OPEN is there, and lets it hear that. Where something else is there, the session is one
+/* Makes the session of a peer of any AS number once its OPEN is there, and passes it that. Where something else is there, the session is one
  * with our own AS number, which answers it. */
 static void begin(struct peer *peer)
 {
@@ -429,7 +429,7 @@ static void connected(struct peer *peer)
 static void receive(struct peer *peer)
 {
     ssize_t got;
-    /* What comes behind the last message that was heard has no meaning. */
+    /* What comes after the last message that was received has no meaning. */
     if (peer->connection == ENDS)
         peer->in_len = 0;
     got = recv(peer->fd, peer->in + peer->in_len, sizeof peer->in - peer->in_len, 0);
@@ -497,7 +497,7 @@ static struct peer *peer_at(const char *host)
     return NULL;
 }
 
-/* Leaves the listener alone for a while, where a connection can't be accepted: poll would tell of it again at once. */
+/* Leaves the listener alone for a while, where a connection can't be accepted: poll would report it again at once. */
 static void rest_listener(int error)
 {
     if (error != accept_error)
@@ -514,7 +514,7 @@ static int wants_connection(const struct peer *peer, uint8_t state)
     return peer != NULL && (state == RISTULVA_CONNECT || state == RISTULVA_ACTIVE);
 }
 
-/* Takes the connection of a peer whose session wants one, in place of the try for one: it has one at a time. */
+/* Takes the connection of a peer whose session wants one, instead of the try for one: it has one at a time. */
 static void welcome(void)
 {
     struct sockaddr_storage from;
@@ -623,7 +623,7 @@ static void take_flags(int argc, char **argv, const char **address, const char *
     }
 }
 
-/* Who waits for a peer has to listen. */
+/* A speaker that waits for a peer has to listen. */
 static void check_listening(void)
 {
     size_t i;
@@ -662,7 +662,7 @@ static void on_signal(int number)
         errno = kept;
 }
 
-/* Has a signal heard by poll. A second one ends the collector at once. */
+/* Has a signal wake poll. A second one ends the collector at once. */
 static void await_signals(void)
 {
     struct sigaction action;
@@ -710,7 +710,7 @@ static nfds_t list_sockets(struct pollfd *polls)
     return count;
 }
 
-/* When the first timer runs out, or the listener is heard again: `until` at the latest. */
+/* When the first timer runs out, or the listener is polled again: `until` at the latest. */
 static long long first_due(long long until)
 {
     size_t i;
@@ -762,7 +762,7 @@ static void print_said(void)
         end(1, "standard output", strerror(errno));
 }
 
-/* Prints what is left, for a reader that goes on. */
+/* Prints what is left, for a reader that still reads. */
 static void print_rest(void)
 {
     struct pollfd out = {STDOUT_FILENO, POLLOUT, 0};

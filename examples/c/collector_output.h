@@ -15,11 +15,11 @@
 #define PIPE_BUF 512
 #endif
 
-/* So many octets may wait. Whole lines behind them are left out, and their number is told once there is room again. */
+/* The most octets that may wait. Whole lines after them are dropped, and their number is printed once there is room again. */
 #define SAID_MOST ((size_t)1 << 24)
 
 static char *said;
-static size_t said_at, said_len, said_room; /* what is written, what is said, and the memory for it */
+static size_t said_at, said_len, said_room; /* offsets of what is written and of what is printed, and the memory for it */
 static size_t said_line;                    /* where the line that is being said begins */
 static int is_skipping;                     /* the rest of a line is left out */
 static unsigned long long left_out;         /* how many lines are */

@@ -9,7 +9,7 @@
 #include <string.h>
 #include <sys/socket.h>
 
-/* Who is one hop away sends this, and nobody else can. */
+/* The TTL that a peer one hop away sends, and no other can. */
 #define NEAR 255
 
 static int set_number(int fd, int level, int option, int number)
@@ -52,7 +52,7 @@ static void map(const struct sockaddr_storage *address, int family, struct socka
     memcpy(out, &six, sizeof six);
 }
 
-/* Has segments of a peer signed by a key, and heard only where they are. `family` is the socket's. */
+/* Has segments of a peer signed by a key, and received only where they are. `family` is the socket's. */
 static int set_key(int fd, int family, const struct sockaddr_storage *peer, const char *key)
 {
 #ifdef TCP_MD5SIG
@@ -69,7 +69,7 @@ static int set_key(int fd, int family, const struct sockaddr_storage *peer, cons
 #endif
 }
 
-/* Sends with the highest TTL, and hears nothing that has less: what comes from farther away. */
+/* Sends with the highest TTL, and receives nothing with less: what comes from farther away. */
 static int set_near(int fd, int family)
 {
 #if defined(IP_MINTTL) && defined(IPV6_MINHOPCOUNT)

@@ -11,7 +11,7 @@
 #include <string.h>
 #include <sys/socket.h>
 
-/* Room for an address as text, with the name of a link behind it. */
+/* Room for an address as text, with the name of a link after it. */
 #define HOST 64
 
 static void end(int status, const char *word, const char *why)
@@ -55,8 +55,8 @@ static void print_host(struct sockaddr_storage address, socklen_t len, char host
         host[0] = '\0';
 }
 
-/* A NOTIFICATION that tells a peer of an administrative shutdown, with a text of 255 octets at most: 6/2, and behind an octet of its length the text
- * (RFC 4486; RFC 9003, section 2). Answers how many octets it has. */
+/* A NOTIFICATION of an administrative shutdown, with a text of 255 octets at most: 6/2, and after an octet of its length the text
+ * (RFC 4486; RFC 9003, section 2). Answers its length. */
 static size_t shutdown_message(const char *text, uint8_t *out)
 {
     size_t len = strlen(text);

@@ -2,7 +2,7 @@
  *
  *     fields [--as4] [--ip4] [--ip6] [--internal] < STREAM
  *
- * A line has the offset in the message, the octets and the name, and a mark where a fault or a note lies there. It ends behind the message that ends the
+ * A line has the offset in the message, the octets and the name, and a mark where a fault or a note lies there. It ends after the message that ends the
  * session. Its status is 0, or 2 for a fault of the command line, 4 where a read or a write failed. */
 #include "ristulva.h"
 #include <stdio.h>

@@ -1,4 +1,4 @@
-/* A guard of one session, to start from: it accepts an outer peer, connects to the inner speaker, and hands on what is clean:
+/* A guard of one session, to start from: it accepts an outer peer, connects to the inner speaker, and passes on what is clean:
  *
  *     guard PORT INNER_ADDRESS INNER_PORT [TYPE]..
  *
@@ -36,7 +36,7 @@ static struct side {
     enum phase phase;
     int fd, seconds; /* of a side that leaves, how many are left */
     ristulva_asks asks;
-    uint8_t in[16384]; /* what came and the guard hasn't taken */
+    uint8_t in[16384]; /* what came and the guard hasn't consumed */
     size_t in_len;
 } sides[] = {{.name = "outer", .number = RISTULVA_OUTER, .phase = GONE}, {.name = "inner", .number = RISTULVA_INNER, .phase = GONE}};
 
@@ -66,7 +66,7 @@ static void stand(struct side *side)
     ristulva_guard_event(&guard, side->number, RISTULVA_SIDE_STOOD);
 }
 
-/* What came of trying to connect. */
+/* The outcome of trying to connect. */
 static void meet(struct side *side)
 {
     int error = 0;
@@ -152,7 +152,7 @@ static struct pollfd ask(struct side *side)
     return wait;
 }
 
-/* Does what poll told of a side: a socket that failed is told as ready for all. */
+/* Acts on what poll reported of a side: a socket that failed counts as ready for all. */
 static void serve(struct side *side, short ready)
 {
     if (ready & (POLLERR | POLLHUP))

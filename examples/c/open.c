@@ -10,8 +10,8 @@
  *     cap 65 00020001
  *     cap 2 -
  *
- * The flags are what both speakers agreed on, as `bgp show` takes them: no OPEN depends on them, but what stands in front of one may end
- * the session. It takes no memory. It ends with 1 where a message ends the session, or the stream ends inside of one. */
+ * The flags are what both speakers agreed on, as `bgp show` takes them: no OPEN depends on them, but what comes before one may end
+ * the session. It allocates nothing. It ends with 1 where a message ends the session, or the stream ends inside of one. */
 #include "ristulva.h"
 #include <stdio.h>
 #include <string.h>

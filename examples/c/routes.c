@@ -5,7 +5,7 @@
  *     announce 10.0.0.0/8 path 65001 65002 {65003 65004}
  *     withdraw 2001:db8::/32
  *
- * All that it tells it reads by cursors from the octets that it holds, and it takes no memory. An UPDATE that is treated as a withdrawal
+ * All that it prints it reads by cursors from the octets that it holds, and it allocates nothing. An UPDATE that is treated as a withdrawal
  * withdraws all its prefixes (RFC 7606, section 2). It ends with 1 where a message ends the session, or the stream ends inside of one. */
 #include "ristulva.h"
 #include <arpa/inet.h>

@@ -38,7 +38,7 @@ static uint8_t state_of(struct side *side)
     return state;
 }
 
-/* Does what a session answers: what it sends comes to its peer. */
+/* Does what a session answers: what it sends is passed to its peer. */
 static void carry_out(struct side *side, const ristulva_actions *actions, const uint8_t *message, size_t len)
 {
     size_t i, sent = 0;
@@ -77,7 +77,7 @@ static void happens(struct side *side, uint32_t event)
     carry_out(side, &actions, message, len);
 }
 
-/* Lets a side hear the first message that came for it. Answers whether there was one. */
+/* Passes a side the first message that came for it. Answers whether there was one. */
 static int hears(struct side *side)
 {
     uint8_t message[RISTULVA_MESSAGE + 1];

@@ -13,7 +13,7 @@ static _Noreturn void wrong(const char *fact, int line)
     exit(1);
 }
 
-/* ---- memory: in place of the three functions that the library has ---- */
+/* ---- memory: instead of the three functions that the library has ---- */
 
 /* How many allocations there were, how many are live, and which of them fails: 0 for none. */
 static long allocations, live, refused;

@@ -5,7 +5,7 @@
 #include "trial.h"
 #include <pthread.h>
 
-/* Does the work in a thread that has so many octets of stack. */
+/* Does the work in a thread with this many octets of stack. */
 static void run_on_stack(void *(*work)(void *), size_t stack)
 {
     pthread_attr_t how;

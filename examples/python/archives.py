@@ -34,12 +34,12 @@ import counting
 import reading
 
 COLUMNS = ("prefix", "routes", "origins", "changes", "announced", "withdrawn")
-# So many parts are put together at a time.
+# The number of parts that are added up at a time.
 TOGETHER = 8
 
 
 def say(line: str) -> None:
-    """Tells something on standard error."""
+    """Prints a line on standard error."""
     print(f"archives: {line}", file=sys.stderr)
 
 
@@ -61,7 +61,7 @@ def in_one_process(folder: str, names: list[str]) -> counting.Part:
 
 
 def on_workers(client: typing.Any, folder: str, names: list[str]) -> counting.Part:
-    """Counts the files on the workers, each as a task of its own, and puts together what came of them, some at a time."""
+    """Counts the files on the workers, each as a task of its own, and adds up their results, some at a time."""
     import distributed
 
     # In the order in which they need each other. A worker that comes later gets them too.
@@ -94,7 +94,7 @@ def counted(given: argparse.Namespace, names: list[str]) -> counting.Part:
         return on_workers(client, given.folder, names)
 
 
-# ---- what comes of it ----
+# ---- results ----
 
 
 def order(prefix: str) -> tuple[int, int, int]:
@@ -137,7 +137,7 @@ def write(whole: counting.Part, into: pathlib.Path) -> None:
 
 
 def tell(whole: counting.Part, files: int) -> None:
-    """Tells what was counted, what was left out, and which files are damaged."""
+    """Prints what was counted, what was left out, and which files are damaged."""
     say(", ".join([f"{files} files", *(f"{count} {verdict}" for verdict, count in sorted(whole.messages.items()))]))
     for why, count in sorted(whole.left_out.items()):
         say(f"left out: {count} {why}")

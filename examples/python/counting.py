@@ -1,4 +1,4 @@
-"""Counts by prefix what archives tell, so that parts of them can be counted apart and put together: `merged` of the parts, in their order, is what
+"""Counts by prefix what archives have, so that parts of them can be counted apart and put together: `merged` of the parts, in their order, is what
 counting all of it in one go gives."""
 
 from __future__ import annotations
@@ -18,7 +18,7 @@ Path = typing.Optional[tuple[tuple[int, tuple[int, ...]], ...]]
 
 @dataclasses.dataclass
 class Row:
-    """What a peer told of a prefix: how often it announced and withdrew it, how often its route changed, and the states at first and at last.
+    """What a peer sent of a prefix: how often it announced and withdrew it, how often its route changed, and the states at first and at last.
 
     What was there before the first isn't known, so that this is no change."""
 
@@ -40,7 +40,7 @@ class Row:
 
 
 class Part:
-    """What some archives tell: rows by peer and prefix, the AS numbers that a prefix came from, the peers whose sessions fell, how many messages there
+    """What some archives have: rows by peer and prefix, the AS numbers that a prefix came from, the peers whose sessions fell, how many messages there
     were by verdict and what was left out, and the faults of files."""
 
     def __init__(self) -> None:
@@ -52,7 +52,7 @@ class Part:
         self.faults: list[str] = []
 
     def row(self, peer: str, prefix: str, state: Path) -> Row:
-        """The row of a prefix at a peer, which is new where this state is the first told of it. Behind a fall there was no route."""
+        """The row of a prefix at a peer, which is new where this state is the first known of it. After a session fell there was no route."""
         rows = self.rows.setdefault(peer, {})
         if prefix not in rows:
             state = None if peer in self.fallen else state
@@ -104,7 +104,7 @@ def path_of(message: ristulva.Message) -> Path:
 
 
 def counted(folder: str, name: str) -> Part:
-    """Counts an archive. A peer is told apart by the folder too, which is a collector's. Of a damaged file what stands before the damage is counted."""
+    """Counts an archive. A peer is identified by the folder too, which is a collector's. Of a damaged file what comes before the damage is counted."""
     part, collector = Part(), str(pathlib.PurePath(name).parent)
     warnings.simplefilter("ignore", ristulva.Incomplete)
     try:

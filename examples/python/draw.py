@@ -32,12 +32,12 @@ import ristulva
 matplotlib.use("Agg")
 from matplotlib import dates, pyplot, ticker
 
-# Blue and vermilion differ to every eye (Okabe and Ito), and each picture tells the two by their place or their hatch besides.
+# Blue and vermilion differ to every eye (Okabe and Ito), and each picture distinguishes the two by their place or their hatch besides.
 BLUE, VERMILION = "#0072B2", "#D55E00"
 # The same data gives the same octets: identifiers come from this word and not by chance, and no date is written.
 matplotlib.rcParams.update({"svg.hashsalt": "ristulva", "svg.fonttype": "none", "font.size": 10, "axes.spines.top": False, "axes.spines.right": False})
 
-# So many peers have a panel of their own, those that told most; and so many steps in time at most.
+# The most peers with a panel of their own, those that sent most; and the most steps in time.
 PANELS, STEPS = 6, 90
 SECONDS = (1, 2, 5, 10, 20, 30, 60, 120, 300, 600, 1200, 1800, 3600, 7200, 14400, 21600, 43200, 86400)
 MESSAGES = tuple(digit * 10**power for power in range(9) for digit in (1, 2, 5))
@@ -84,7 +84,7 @@ class Seen:
                 self.lengths[prefix.version][length] += 1
 
     def peers(self) -> list[str]:
-        """The peers that told most, in the order of their names."""
+        """The peers that sent most, in the order of their names."""
         told = {peer: sum(self.announced[peer].values()) + sum(self.withdrawn[peer].values()) for peer in self.announced}
         return sorted(sorted(told, key=lambda peer: (-told[peer], peer))[:PANELS])
 
@@ -154,7 +154,7 @@ def legend_above(axes: typing.Any) -> None:
 
 
 def bars(axes: typing.Any, seen: Seen, peer: str, begin: int, step: int, steps: int) -> None:
-    """Draws what a peer told, announcements upwards and withdrawals downwards."""
+    """Draws what a peer sent, announcements upwards and withdrawals downwards."""
     edges = [begin + step * at for at in range(steps + 1)]
     where = [dates.date2num(datetime.datetime.fromtimestamp(it, datetime.timezone.utc)) for it in edges] if seen.has_times else edges
     for counts, sign, colour, label in ((seen.announced, 1, BLUE, "announced"), (seen.withdrawn, -1, VERMILION, "withdrawn")):
@@ -246,7 +246,7 @@ def arguments() -> argparse.Namespace:
 def main() -> int:
     given = arguments()
     wrong: list[str] = []
-    # A stream's cut end is told by the program; what is drawn is the messages.
+    # A stream's cut end is reported by the program; what is drawn is the messages.
     warnings.simplefilter("ignore", ristulva.Incomplete)
     if len(given.files) == 1 and given.files[0].is_file() and is_stream(given.files[0]):
         seen = read_stream(given.files[0], ristulva.Context(given.internal, given.as4, given.ip4, given.ip6))

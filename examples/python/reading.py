@@ -1,4 +1,4 @@
-"""What MRT archives tell, judged: each message with its time and its peer, and each session that fell. `archives.py` and `draw.py` read by it.
+"""What MRT archives have, judged: each message with its time and its peer, and each session that fell. `archives.py` and `draw.py` read by it.
 
 It needs the package ristulva (docs/C.md) and contrib/mrt.py, from the tree or from where the programs' documents are installed."""
 
@@ -23,7 +23,7 @@ MARKER = b"\xff" * 16
 
 
 class Heard(typing.NamedTuple):
-    """A message of a peer, or the fall of its session, which has none. What a table tells is a route that the peer has, and no message of it."""
+    """A message of a peer, or the fall of its session, which has none. An entry of a table is a route that the peer has, and no message of it."""
 
     time: float
     peer: str

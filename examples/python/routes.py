@@ -45,7 +45,7 @@ def told(message: ristulva.Message) -> dict[str, typing.Any]:
 def main() -> int:
     if not set(sys.argv[1:]) <= set(FLAGS):
         sys.exit((__doc__ or "").strip())
-    # The status tells it.
+    # The status says so.
     warnings.simplefilter("ignore", ristulva.Incomplete)
     context = ristulva.Context(**{FLAGS[word]: True for word in sys.argv[1:]})
     octets = sys.stdin.buffer.read()

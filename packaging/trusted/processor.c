@@ -9,7 +9,7 @@ static void ask(unsigned number, unsigned *told)
     __asm__ volatile("cpuid" : "=a"(told[0]), "=b"(told[1]), "=c"(told[2]), "=d"(told[3]) : "a"(number), "c"(0));
 }
 
-/* Index 0 is for the processor's leaf 1, and 2 for 0x80000001, as <sys/platform/x86.h> numbers them. Of others nothing is told. */
+/* Index 0 is for the processor's leaf 1, and 2 for 0x80000001, as <sys/platform/x86.h> numbers them. Nothing is known of others. */
 __attribute__((visibility("hidden"))) const struct leaf *__x86_get_cpuid_feature_leaf(unsigned index)
 {
     static struct leaf found[3];

@@ -1,5 +1,5 @@
 /* The start of a program that asks for no glibc newer than 2.17. The start files of glibc 2.34 and later name __libc_start_main of that version, which
- * runs what a program has to run before main; an earlier one is handed a function that does: as glibc 2.33's own start files have it (csu/elf-init.c). */
+ * runs what a program has to run before main; an earlier one is given a function that does, as in glibc 2.33's own start files (csu/elf-init.c). */
 #if defined __x86_64__
 __asm__(".symver __libc_start_main, __libc_start_main@GLIBC_2.2.5");
 __asm__(".text\n.globl _start\n.type _start,@function\n_start:\n\t.cfi_startproc\n\t.cfi_undefined rip\n\tendbr64\n\txor %ebp,%ebp\n\tmov %rdx,%rsi\n"
@@ -28,7 +28,7 @@ static void begin(int count, char **words, char **names)
 
 static void nothing(void) {}
 
-/* `at` is where the system has put the number of words, and the words behind it; `end` is for atexit. */
+/* `at` is where the system has put the number of words, and the words after it; `end` is for atexit. */
 __attribute__((used)) HIDDEN void start_of(long *at, void (*end)(void))
 {
     __libc_start_main(main, at[0], (char **)(at + 1), begin, nothing, end, at);

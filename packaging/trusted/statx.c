@@ -1,4 +1,4 @@
-/* What is told of a file, which glibc has from 2.28 on: asked of Linux itself (4.11 or later), by the number that the call has there. */
+/* The attributes of a file, which glibc has from 2.28 on: asked of Linux itself (4.11 or later), by the number that the call has there. */
 #if defined(__x86_64__)
 #define STATX 332
 #elif defined(__aarch64__)

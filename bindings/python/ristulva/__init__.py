@@ -8,7 +8,7 @@ It is the file that RISTULVA_LIBRARY names by an absolute path, else libristulva
             for prefix in message.announced():
                 ...
 
-    table = ristulva.table(octets, ristulva.Context(as4=True))  # the routes of a whole stream as an array of numpy, which has to be there
+    table = ristulva.table(octets, ristulva.Context(as4=True))  # the routes of a whole stream as an array of numpy, which has to be installed
     print(table.routes["origin_as"][table.routes["announced"]])
 
     with ristulva.Decoder(ristulva.Context(as4=True)) as decoder:

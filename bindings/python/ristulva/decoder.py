@@ -11,15 +11,15 @@ from ctypes import c_size_t
 from .library import DATA, HEADER, LIBRARY, MESSAGE, STATE, Handle, Verdict
 from .message import Context, Message, check
 
-UNTOLD = c_size_t(-1).value  # more octets than any call takes
+UNTOLD = c_size_t(-1).value  # more octets than any call consumes
 
 
 class DecoderClosed(ValueError):
-    """The decoder was closed: there is none any more."""
+    """The decoder was closed: it no longer exists."""
 
 
 class Pull:
-    """A call of the library on some octets: what it tells stands here, also where an exception comes before anybody has read it."""
+    """A call of the library on some octets: its results are here, also where an exception comes before they were read."""
 
     __slots__ = ("octets", "taken", "verdict")
 
@@ -28,20 +28,20 @@ class Pull:
 
 
 class Stand(typing.NamedTuple):
-    """Where a decoder stands. One takes the place of another as a whole, since an exception may come between any two steps."""
+    """The state of a decoder. It is replaced as a whole, since an exception may come between any two steps."""
 
-    taken: int = 0  # how many octets of the stream came
+    taken: int = 0  # the number of octets received of the stream
     octets: bytes = b""  # the last of these, where the library doesn't have all of them
-    at: int = 0  # how many of them it has
-    place: int = 0  # where the next message stands in the stream
+    at: int = 0  # the number of them that it has
+    place: int = 0  # the offset of the next message in the stream
     pull: typing.Optional[Pull] = None  # a call that wasn't counted yet
 
 
 class Decoder:
-    """Reads a stream in whatever pieces its octets come, and gives what `messages` gives of the whole. It holds at most one message.
+    """Reads a stream in whatever pieces its octets arrive, and gives what `messages` gives of the whole. It holds at most one message.
 
     It is memory, some 4.2 KB of the library's and 8 KB beside. What is the library's is freed when it is closed, at the end of a `with`, or when
-    nothing refers to it any more. Threads may share it: each call takes its turn, and who feeds from several threads decides on the order."""
+    nothing refers to it any more. Threads may share it: each call takes its turn, and a caller that feeds from several threads decides on the order."""
 
     def __init__(self, context: Context) -> None:
         self._lock, self._handle, self._context = threading.RLock(), Handle(), context
@@ -80,13 +80,13 @@ class Decoder:
         return status
 
     def feed(self, piece: typing.Union[bytes, bytearray, memoryview]) -> list[Message]:
-        """Takes all octets of a piece, and answers the messages that are whole by them. The last one may end the session: its verdict is "reset".
-        Behind that nothing is read any more, and nothing answered.
+        """Consumes all octets of a piece, and answers the messages that are whole with them. The last one may end the session: its verdict is "reset".
+        After that nothing more is read or answered.
 
-        The place of each is that in the stream. Of a header with a fault the octets are those of the header.
+        The place of each is its offset in the stream. For a header with a fault the octets are those of the header.
 
-        Where an exception cuts it off, as one of a signal's handler, no message is lost: the next call goes on where this one stopped, and
-        answers the messages of both. `taken` tells then whether the piece was taken: all of it was, or nothing."""
+        Where an exception cuts it off, as one of a signal's handler, no message is lost: the next call continues where this one stopped, and
+        answers the messages of both. `taken` shows then whether the piece was consumed: all of it was, or nothing."""
         octets = bytes(memoryview(piece))
         found: list[Message] = []
         try:
@@ -113,9 +113,9 @@ class Decoder:
             pass
 
     def _step(self) -> bool:
-        """Calls the library once, where that wasn't done, and counts what it told. Whether there is more to do.
+        """Calls the library once, where that wasn't done, and counts what it reported. Whether there is more to do.
 
-        Each line may be the last one before an exception; the next call then does again what wasn't done: a message is known by its place."""
+        Each line may be the last one before an exception; the next call then does again what wasn't done: a message is known by its offset."""
         taken, octets, at, place, pull = self._stand
         if pull is None:
             pull = Pull(octets[at : at + MESSAGE])
@@ -141,14 +141,14 @@ class Decoder:
 
     @property
     def taken(self) -> int:
-        """How many octets it has taken, of all pieces."""
+        """The number of octets it has consumed, of all pieces."""
         with self._lock:
             self._check_open()
             return self._stand.taken
 
     @property
     def held(self) -> int:
-        """How many octets of a message that isn't whole it holds. Where a stream ends, 0 says that it ends behind a message."""
+        """The number of octets of an incomplete message that it holds. Where a stream ends, 0 means that it ends after a message."""
         held = c_size_t()
         with self._lock:
             self._take(b"")

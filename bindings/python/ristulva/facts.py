@@ -14,27 +14,27 @@ ORIGINS = ("IGP", "EGP", "INCOMPLETE")
 
 @dataclasses.dataclass(frozen=True)
 class Facts:
-    """What is kept of an UPDATE that is accepted: neither what is discarded nor what stands in one that is treated as a withdrawal. What isn't there is None."""
+    """What is kept of an UPDATE that is accepted: neither what is discarded nor what is in one that is treated as a withdrawal. What is missing is None."""
 
     origin: typing.Optional[str]  # one of ORIGINS
     next_hop: typing.Optional[ipaddress.IPv4Address]  # NEXT_HOP
     mp_next_hop: typing.Optional[Address]  # the next hop of MP_REACH_NLRI, for IPv6 its global address
-    link_local: typing.Optional[ipaddress.IPv6Address]  # the link-local address behind that one (RFC 2545)
+    link_local: typing.Optional[ipaddress.IPv6Address]  # the link-local address after that one (RFC 2545)
     med: typing.Optional[int]
     local_pref: typing.Optional[int]
     atomic_aggregate: bool
     aggregator: typing.Optional[tuple[int, ipaddress.IPv4Address]]  # what AGGREGATOR and AS4_AGGREGATOR give together (RFC 6793, section 4.2.3)
-    # The AS that the route came from: the last number of the path that AS_PATH and AS4_PATH give together. None where that is empty or ends in a set.
+    # The origin AS of the route: the last number of the path that AS_PATH and AS4_PATH give together. None where that is empty or ends in a set.
     origin_as: typing.Optional[int]
     as_path: typing.Optional[slice]  # where the value of AS_PATH lies in the message's octets; so with the three others
     as4_path: typing.Optional[slice]
     communities: typing.Optional[slice]
     large_communities: typing.Optional[slice]
-    unrecognised: int  # how many attributes of types that aren't recognised
+    unrecognised: int  # the number of attributes of types that aren't recognised
 
     @property
     def next_hops(self) -> list[Address]:
-        """NEXT_HOP, and the next hop of MP_REACH_NLRI: those that there are."""
+        """NEXT_HOP, and the next hop of MP_REACH_NLRI: those that are present."""
         return [hop for hop in (self.next_hop, self.mp_next_hop) if hop is not None]
 
 
@@ -43,7 +43,7 @@ def lies(has: int, span: Span) -> typing.Optional[slice]:
 
 
 def facts_of(it: CFacts) -> Facts:
-    """What C tells."""
+    """From C's form."""
     hops, paths = it.hops, it.paths
     over = {0: None, 1: ipaddress.IPv4Address(bytes(hops.mp_next_hop)[:4]), 2: ipaddress.IPv6Address(bytes(hops.mp_next_hop))}
     return Facts(

@@ -1,4 +1,4 @@
-"""The fields of a message: each octet of it stands in one of them, whatever comes."""
+"""The fields of a message: each octet of it is in exactly one of them, whatever the message is."""
 
 from __future__ import annotations
 
@@ -9,7 +9,7 @@ from ctypes import c_size_t
 
 from .library import LIBRARY, CField, CNote, Said, Span
 
-# What a field is, by the numbers of ristulva.h from 1 on. A prefix's kind says its family and where it stands.
+# What a field is, by the numbers of ristulva.h from 1 on. A prefix's kind says its family and its field.
 KINDS = (
     "Marker", "MessageLength", "MessageType", "Version", "MyAs", "HoldTime", "Identifier", "ParametersLength", "ParameterType",
     "ParameterLength", "CapabilityCode", "CapabilityLength", "CapabilityValue", "Afi", "Safi", "Reserved", "AsNumber", "WithdrawnLength",

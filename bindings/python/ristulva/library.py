@@ -1,4 +1,4 @@
-"""The library for C as ctypes has it: its statuses, its structures and its calls, as ristulva.h declares them."""
+"""The library for C in ctypes: its statuses, its structures and its calls, as ristulva.h declares them."""
 
 from __future__ import annotations
 
@@ -19,7 +19,7 @@ class Span(Structure):
 
 
 class Said(Structure):
-    """What both speakers agreed on, as C has it."""
+    """What both speakers agreed on, in C's form."""
 
     _fields_ = [("internal", c_uint8), ("as4", c_uint8), ("ip4", c_uint8), ("ip6", c_uint8)]
 
@@ -146,7 +146,7 @@ class Handle(Structure):
 
 
 def place() -> str:
-    """Where the shared library lies: where RISTULVA_LIBRARY says, else beside this file, else where the loader finds its soname. Never in the folder
+    """The path of the shared library: what RISTULVA_LIBRARY says, else beside this file, else where the loader finds its soname. Never in the folder
     that Python was started in."""
     named = os.environ.get("RISTULVA_LIBRARY")
     if named is not None:
@@ -158,7 +158,7 @@ def place() -> str:
     return str(beside) if beside.exists() else soname
 
 
-# Calls that take no longer than Python's lock would take to be given up and had back: they keep it.
+# Calls that take no longer than releasing and taking Python's lock again: they keep it.
 SHORT = (
     "next_attribute", "next_prefix", "next_route", "next_segment", "next_number", "next_large_community", "next_capability", "reached", "unreached", "open", "judge",
     "facts", "begin_routes", "agree", "name", "session_state", "session_context",
@@ -185,7 +185,7 @@ class Library:
 
 
 def opened(where: str, form: typing.Type[ctypes.CDLL]) -> ctypes.CDLL:
-    """The shared library of this place."""
+    """The shared library at this path."""
     try:
         return form(where)
     except OSError as error:
@@ -198,9 +198,9 @@ def load() -> tuple[Library, int]:
     where = place()
     library = Library(where)
     octets: list[typing.Any] = [c_char_p, c_size_t]
-    # A buffer and its room come before what is written beside it.
+    # A buffer and its room precede the other results.
     buffer: list[typing.Any] = [c_char_p, c_size_t]
-    # Rows of numpy and octets anywhere in a buffer are handed in by their addresses.
+    # Rows of numpy and octets anywhere in a buffer are passed by their addresses.
     batch = [POINTER(Said), c_void_p, c_size_t, c_void_p, c_size_t, POINTER(c_size_t), POINTER(c_size_t)]
     session = decoder = POINTER(Handle)
     takes = {

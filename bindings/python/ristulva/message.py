@@ -1,6 +1,6 @@
 """Messages, judged in the context of their session; and UPDATEs in their one written form.
 
-A Message keeps the octets that it was read from; what it gives is read from them when it is asked for."""
+A Message keeps the octets that it was read from; what it gives is read from them on demand."""
 
 from __future__ import annotations
 
@@ -67,7 +67,7 @@ REFUSALS = {RANGE: "too long a body", REFUSED: "not accepted whole", MIXED: "rou
 
 
 def check(status: int) -> None:
-    """Raises what the status of a call tells that writes an UPDATE, where it isn't OK."""
+    """Raises the error for the status of a call that writes an UPDATE, where it isn't OK."""
     if status == MEMORY:
         raise MemoryError
     if status == STATE:
@@ -110,20 +110,20 @@ class Open:
 
 @dataclasses.dataclass(frozen=True)
 class Cleaned:
-    """What came of a message that is cleaned."""
+    """The result of cleaning a message."""
 
-    octets: bytes  # what is handed on of it, a whole message in its one written form; none where the stream ends
-    ends: typing.Optional[str]  # why the cleaned stream ends before it, one of ENDS; None where it is handed on
-    discarded: int  # how many attributes of an UPDATE that is accepted are discarded, each with a note
-    left_out: int  # how many others are left out, by their types
-    capabilities: int  # how many capabilities of an OPEN are left out
+    octets: bytes  # what is passed on of it, a whole message in its one written form; none where the stream ends
+    ends: typing.Optional[str]  # why the cleaned stream ends before it, one of ENDS; None where it is passed on
+    discarded: int  # the number of attributes of an accepted UPDATE that are discarded, each with a note
+    left_out: int  # the number of others left out, by their types
+    capabilities: int  # the number of capabilities of an OPEN left out
 
 
 Out = typing.TypeVar("Out")
 
 
 def each(call: str, octets: bytes, cursor: ctypes.Structure, out: Out) -> typing.Iterator[Out]:
-    """What a cursor gives, one after another: always the same place, written anew."""
+    """What a cursor gives, in sequence: always the same object, written again."""
     step, size = getattr(LIBRARY, f"ristulva_{call}"), len(octets)
     while step(octets, size, cursor, out) == 0:
         yield out
@@ -135,7 +135,7 @@ def prefix_of(it: CPrefix) -> Prefix:
 
 
 class Message:
-    """A message that was judged, or a header with a fault. Two are equal where their octets, contexts, places and verdicts are."""
+    """A message that was judged, or a header with a fault. Two are equal where their octets, contexts, offsets and verdicts are."""
 
     def __init__(self, octets: bytes, context: Context, place: int, verdict: Verdict, data: bytes) -> None:
         self.octets, self.context, self.place = octets, context, place
@@ -157,7 +157,7 @@ class Message:
         return hash((self.octets, self.context, self.place))
 
     def __len__(self) -> int:
-        """How many octets it has: those of a header, where that has a fault."""
+        """Its length in octets: that of a header, where that has a fault."""
         return len(self.octets)
 
     def __reduce__(self) -> tuple[typing.Any, ...]:
@@ -170,7 +170,7 @@ class Message:
 
     @property
     def notification(self) -> typing.Optional[tuple[int, int, bytes]]:
-        """Code, subcode and data of the NOTIFICATION that came, or that ends the session; else None."""
+        """Code, subcode and data of the NOTIFICATION that was received, or that ends the session; else None."""
         said = self.verdict in ("notification", "reset")
         return (self.found.code, self.found.subcode, self.data) if said else None
 
@@ -187,7 +187,7 @@ class Message:
             room = written.value
 
     def open(self) -> typing.Optional[Open]:
-        """What an OPEN that is accepted says; None of any other message."""
+        """What an accepted OPEN says; None for any other message."""
         it = COpen()
         if LIBRARY.ristulva_open(self.octets, len(self.octets), it) != 0:
             return None
@@ -196,7 +196,7 @@ class Message:
         return Open(it.as_number, it.as_field, it.hold, ipaddress.IPv4Address(bytes(it.id)), bool(it.as4), bool(it.ip4), bool(it.ip6), capabilities)
 
     def notes(self) -> list[tuple[int, int, str]]:
-        """What RFC 7606 found: of each note the attribute's place in the message (0 where it is missing), its type, and one of WHYS."""
+        """What RFC 7606 found: of each note the attribute's offset in the message (0 where it is missing), its type, and one of WHYS."""
         notes, count = (CNote * 8)(), c_size_t()
         while LIBRARY.ristulva_notes(self.context.said(), self.octets, len(self.octets), notes, len(notes), count) == ROOM:
             notes = (CNote * count.value)()
@@ -207,22 +207,22 @@ class Message:
         return fields_of(self.octets, self.context.said())
 
     def fault(self) -> typing.Optional[tuple[int, int]]:
-        """For which of its octets the session ends: where they begin in the message, and how many they are. None where it isn't a "reset"."""
+        """For which of its octets the session ends: their offset in the message, and their number. None where it isn't a "reset"."""
         return fault_of(self.octets, self.context.said())
 
     def fault_section(self) -> str:
-        """The section of an RFC by which the session ends, as `bgp explain` prints it; "own rule" where no RFC has it so. Empty where it isn't a "reset"."""
+        """The section of an RFC by which the session ends, as `bgp explain` prints it; "own rule" where no RFC has the rule. Empty where it isn't a "reset"."""
         return fault_section_of(self.octets, self.context.said())
 
     def clean(self, first: bool = False, types: typing.Iterable[int] = ()) -> Cleaned:
-        """The octets of what may be handed on of it to a hearer, who learns by it what RFC 7606 has the hearer of the message learn: of one message, or of
-        up to three of an UPDATE: the routes that are gone, those of NLRI, those of MP_REACH_NLRI.
+        """The octets of what may be passed on of it to a receiver, which learns from it what RFC 7606 has the receiver of the message learn: of one message,
+        or of up to three of an UPDATE: withdrawn routes, those of NLRI, those of MP_REACH_NLRI.
 
-        An OPEN is handed on with the first capability of each kind for IPv4 unicast, IPv6 unicast and AS numbers of four octets, and no others. An UPDATE
-        that is accepted is handed on without what is discarded, and without attributes of unrecognised types that are among `types`; one that is treated as
-        a withdrawal as an UPDATE that withdraws its routes. Routes of IPv4 go on in Withdrawn Routes and NLRI. Where an UPDATE has no routes, a KEEPALIVE
-        is handed on, unless it came as an End-of-RIB. `first` is whether the message is the first one of its stream. Of a message with `ends`, and of all
-        behind it, nothing is to be handed on."""
+        An OPEN is passed on with the first capability of each kind for IPv4 unicast, IPv6 unicast and 4-octet AS numbers, and no others. An UPDATE
+        that is accepted is passed on without what is discarded, and without attributes of unrecognised types that are among `types`; one that is treated as
+        a withdrawal as an UPDATE that withdraws its routes. IPv4 routes are passed on in Withdrawn Routes and NLRI. Where an UPDATE has no routes, a
+        KEEPALIVE is passed on, unless it is an End-of-RIB. `first` is whether the message is the first one of its stream. Of a message with `ends`, and of
+        all after it, nothing is to be passed on."""
         left_out = bytes(iter(types))
         message, written, told = ctypes.create_string_buffer(PARTS), c_size_t(), CCleaned()
         check(LIBRARY.ristulva_clean(
@@ -287,7 +287,7 @@ class Message:
         return [Route(prefix_of(it.prefix), bool(it.announced)) for it in each("next_route", self.octets, cursor, CRoute())]
 
     def facts(self) -> typing.Optional[Facts]:
-        """What everybody asks of an UPDATE, of what is kept; None where it isn't accepted, and of other messages."""
+        """Common attributes of an UPDATE, of those that are kept; None where it isn't accepted, and for other messages."""
         it = CFacts()
         if LIBRARY.ristulva_facts(self.context.said(), self.octets, len(self.octets), it) != OK:
             return None
@@ -311,7 +311,7 @@ class Message:
         return self.numbers(value.span, 4) if value else []
 
     def large_communities(self) -> list[tuple[int, int, int]]:
-        """The large communities of LARGE_COMMUNITY, each three numbers, and each at its first place alone (RFC 8092, section 3)."""
+        """The large communities of LARGE_COMMUNITY, each three numbers, and each only where it occurs first (RFC 8092, section 3)."""
         value = self.first(32)
         if value is None:
             return []
@@ -351,9 +351,9 @@ def judge(octets: typing.Any, context: Context, place: int = 0) -> typing.Option
 
 
 def messages(octets: typing.Any, context: Context) -> typing.Iterator[Message]:
-    """The messages of a stream, up to the first that ends the session. `octets` is a buffer, as `judge` has it.
+    """The messages of a stream, up to the first that ends the session. `octets` is a buffer, as for `judge`.
 
-    Where the stream ends inside a message, a warning `Incomplete` says how many octets of it there are."""
+    Where the stream ends inside a message, a warning `Incomplete` has the number of its octets."""
     octets, place = in_octets(octets), 0
     while (message := judged(part(octets, place), context, place)) is not None:
         yield message
@@ -366,14 +366,14 @@ def messages(octets: typing.Any, context: Context) -> typing.Iterator[Message]:
 
 
 def note_section(kind: int, why: str) -> str:
-    """The section of an RFC by which a note on an attribute of a type is called for, one of WHYS, as `bgp explain` prints it."""
+    """The section of an RFC by which a note on an attribute of a type is required, one of WHYS, as `bgp explain` prints it."""
     return note_section_of(kind, WHYS.index(why) + 1)
 
 
 def agree(ours: typing.Any, theirs: typing.Any) -> typing.Optional[tuple[Context, int]]:
-    """What two speakers agree on, of whose OPENs the octets begin with one each: the context of their session, and its Hold Time in seconds, 0 for
-    none; as `bgp show --opens` finds it. None where one of them is no OPEN that is accepted. Neither is refused for what it says: who reads on refuses a
-    direction for which both agree on path identifiers (capability 69; RFC 7911), since its routes aren't read here."""
+    """What two speakers agree on, given octets that begin with the OPEN of each: the context of their session, and its Hold Time in seconds, 0 for
+    none; as `bgp show --opens` finds it. None where one of them isn't an accepted OPEN. Neither is refused for what it says: refuse a direction for which
+    both agree on path identifiers (capability 69; RFC 7911) before reading on, since its routes aren't supported here."""
     said, hold = Said(), c_uint16()
     one, other = part(in_octets(ours), 0), part(in_octets(theirs), 0)
     if LIBRARY.ristulva_agree(one, len(one), other, len(other), said, hold) != OK:

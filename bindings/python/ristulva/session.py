@@ -1,7 +1,7 @@
 """Sessions (RFC 4271, section 8): one speaker's end of one connection each.
 
-A session does no IO and knows no time. Its host opens and closes the connection, keeps the timers, tells the session what happens, lets it hear the
-octets that come, and does what it asks for."""
+A session does no IO and knows no time. Its host opens and closes the connection, keeps the timers, passes events and received octets to the session,
+and does what it asks for."""
 
 from __future__ import annotations
 
@@ -19,11 +19,11 @@ from ctypes import c_size_t, c_uint8, c_uint16
 from .library import CONFIG, HEADER, LIBRARY, MESSAGE, OK, CAction, CActions, CConfig, CHeard, CPeer, Handle, Said, Verdict
 from .message import VERDICTS, Context, FamilyNotAgreed, Message, check, in_octets, part
 
-NOTIFICATION = 21  # the octets in front of a NOTIFICATION's data
+NOTIFICATION = 21  # the length of a NOTIFICATION before its data
 
 
 class SessionClosed(ValueError):
-    """The session was closed: there is none any more."""
+    """The session was closed: it no longer exists."""
 
 
 class Event(enum.IntEnum):
@@ -31,15 +31,15 @@ class Event(enum.IntEnum):
 
     START = 1  # the operator wants the session
     STOP = 2  # the operator ends it
-    RETRY_EXPIRED = 9  # a timer has run out
+    RETRY_EXPIRED = 9  # a timer has expired
     HOLD_EXPIRED = 10
     KEEPALIVE_EXPIRED = 11
-    CONNECTED = 16  # the connection stands
-    FAILED = 18  # the connection, or the try for one, failed
+    CONNECTED = 16  # the connection is up
+    FAILED = 18  # the connection, or the attempt at one, failed
 
 
 class State(enum.IntEnum):
-    """Where a session stands (RFC 4271, section 8.2.2), as RFC 4273 numbers the states."""
+    """The states of a session (RFC 4271, section 8.2.2), as RFC 4273 numbers them."""
 
     IDLE = 1
     CONNECT = 2
@@ -64,12 +64,12 @@ class Timer(enum.IntEnum):
 
 @dataclasses.dataclass(frozen=True)
 class Seek:
-    """Seek a connection to the peer: Event.CONNECTED or Event.FAILED tells what came of it."""
+    """Seek a connection to the peer: Event.CONNECTED or Event.FAILED reports the result."""
 
 
 @dataclasses.dataclass(frozen=True)
 class Close:
-    """Close the connection, or give up the one that is sought. What came by it and wasn't taken is dropped."""
+    """Close the connection, or abandon the attempt. Octets received and not consumed are dropped."""
 
 
 @dataclasses.dataclass(frozen=True)
@@ -81,7 +81,7 @@ class Send:
 
 @dataclasses.dataclass(frozen=True)
 class Arm:
-    """Start a timer, or start it anew; Timer.expired is the event that tells that it ran out."""
+    """Start or restart a timer; Timer.expired is the event that it expired."""
 
     timer: Timer
     seconds: int
@@ -96,27 +96,27 @@ class Disarm:
 
 @dataclasses.dataclass(frozen=True)
 class Announce:
-    """Take the routes of the UPDATE that was heard: those it announces, and those it withdraws. Attributes that its notes tell of are discarded."""
+    """Accept the routes of the received UPDATE: those it announces, and those it withdraws. Attributes with notes are discarded."""
 
     update: Message
 
 
 @dataclasses.dataclass(frozen=True)
 class Withdraw:
-    """Treat the UPDATE that was heard as a withdrawal of all its routes, also those that it announces (RFC 7606, section 2)."""
+    """Treat the received UPDATE as a withdrawal of all its routes, also those that it announces (RFC 7606, section 2)."""
 
     update: Message
 
 
 @dataclasses.dataclass(frozen=True)
 class Flush:
-    """Drop all routes of the peer: they are gone with the session."""
+    """Drop all routes of the peer: the session has ended."""
 
 
 Action = typing.Union[Seek, Close, Send, Arm, Disarm, Announce, Withdraw, Flush]
 
 
-# How each kind of action is made of what C tells, the message that is sent and the UPDATE that was heard.
+# How each kind of action is made of what C reports, the message that is sent and the received UPDATE.
 MAKING: dict[int, typing.Callable[[CAction, bytes, typing.Any], Action]] = {
     1: lambda it, sent, update: Seek(),
     2: lambda it, sent, update: Close(),
@@ -132,16 +132,16 @@ MAKING: dict[int, typing.Callable[[CAction, bytes, typing.Any], Action]] = {
 
 
 def asked(told: CActions, sent: bytes, update: typing.Optional[Message] = None) -> list[Action]:
-    """The actions that C tells, in their order."""
+    """The actions that C reports, in their order."""
     return [MAKING[it.kind](it, sent, update) for it in told.list[: told.count]]
 
 
 @dataclasses.dataclass(frozen=True)
 class Config:
-    """What a session's own speaker is set to (RFC 4271, section 4.2).
+    """The settings of a session's own speaker (RFC 4271, section 4.2).
 
-    A family that isn't set here isn't offered, and none of its routes come, whatever the peer offers: `Session.hear` of an OPEN that offers more gives
-    a warning `FamilyNotAgreed`. Of IPv4 and IPv6 unicast, `ip4` alone is set where nothing is said."""
+    A family that isn't set here isn't offered, and none of its routes are given, whatever the peer offers: `Session.hear` of an OPEN that offers more gives
+    a warning `FamilyNotAgreed`. Of IPv4 and IPv6 unicast, only `ip4` is set by default."""
 
     local_as: int  # its AS number: not 0 (RFC 7607); above 65535 only with as4 (RFC 6793, section 4.1)
     peer_as: int  # the AS number that the peer has to have: not 0
@@ -152,7 +152,7 @@ class Config:
     ip6: bool = False
 
     def said(self) -> CConfig:
-        """As C has it. ctypes cuts off what doesn't fit, so that is refused here."""
+        """In C's form. ctypes cuts off what doesn't fit, so that is refused here."""
         for name, bits in (("local_as", 32), ("peer_as", 32), ("hold_time", 16)):
             if not 0 <= operator.index(getattr(self, name)) < 1 << bits:
                 raise ValueError(f"{name} is out of its range")
@@ -162,7 +162,7 @@ class Config:
 
 @dataclasses.dataclass(frozen=True)
 class Peer:
-    """What a peer said of itself in its OPEN (RFC 4271, section 4.2)."""
+    """The parameters of a peer's OPEN (RFC 4271, section 4.2)."""
 
     as_number: int  # that of its capability for AS numbers of four octets, else My Autonomous System (RFC 6793, section 4.1)
     identifier: ipaddress.IPv4Address
@@ -175,10 +175,10 @@ class Peer:
 
 @dataclasses.dataclass(frozen=True)
 class Heard:
-    """What a session heard."""
+    """What a session received."""
 
     message: Message  # or the header with a fault; its verdict and its notification are those of the session in its state
-    taken: int  # how many of the octets were taken: the message's, or 19 of a header with a fault
+    taken: int  # the number of octets consumed: the message's, or 19 of a header with a fault
     actions: list[Action]  # what is to be done
 
     @property
@@ -220,7 +220,7 @@ class Session:
         return f"<ristulva.Session: {'open' if self._handle.body else 'closed'}>"
 
     def _call(self, name: str, *arguments: object) -> int:
-        """The status of a call on the handle: no two are handed it at one time."""
+        """The status of a call on the handle: no two are given it at one time."""
         with self._lock:
             if not self._handle.body:
                 raise SessionClosed("the session is closed")
@@ -229,23 +229,23 @@ class Session:
 
     @property
     def state(self) -> State:
-        """Where it stands."""
+        """Its state."""
         state = c_uint8()
         self._call("state", state)
         return State(state.value)
 
     def event(self, event: Event) -> list[Action]:
-        """Tells it what happens, and answers what is to be done, in this order. What doesn't belong in its state does nothing, nor does a timer that
+        """Passes an event to it, and answers what is to be done, in this order. What doesn't belong in its state does nothing, nor does a timer that
         it hasn't started."""
         told, message, written = CActions(), ctypes.create_string_buffer(MESSAGE), c_size_t()
         self._call("event", Event(event), told, message, MESSAGE, written)
         return asked(told, ctypes.string_at(message, written.value))
 
     def hear(self, octets: typing.Union[bytes, bytearray, memoryview]) -> typing.Optional[Heard]:
-        """Lets it hear the message, or the header with a fault, that octets of the peer begin with. What stands behind a message has no effect.
+        """Passes it the message, or the header with a fault, that octets of the peer begin with. Octets after a message are ignored.
 
-        None, and nothing has changed, where they are less than a message, or where the connection doesn't stand, so that octets have no meaning: in
-        Idle, Connect and Active. Its host drops what was taken from the front of what it has received, and calls it again, up to None.
+        None, and nothing has changed, where they are less than a message, or where the connection isn't up, so that octets have no meaning: in
+        Idle, Connect and Active. Its host drops what was consumed from the beginning of what it has received, and calls it again, up to None.
 
         Where an OPEN offers a family that the Config doesn't, a warning `FamilyNotAgreed` says so."""
         octets = part(in_octets(octets), 0)
@@ -277,7 +277,7 @@ class Session:
 
     @property
     def peer(self) -> typing.Optional[Peer]:
-        """What the peer said of itself. None as `context` is."""
+        """The parameters of the peer's OPEN. None as `context` is."""
         it, codes, written = CPeer(), ctypes.create_string_buffer(256), c_size_t()
         with self._lock:
             if self._call("peer", it) != OK:
@@ -294,11 +294,11 @@ class Session:
         return ctypes.string_at(message, written.value)
 
     def send(self, body: typing.Union[bytes, bytearray, memoryview]) -> list[Action]:
-        """An UPDATE as the session sends it now: the message is to be sent, and the Keepalive Timer, where there is one, started anew. The session
-        stays as it is.
+        """An UPDATE as the session sends it now: the message is to be sent, and the Keepalive Timer, where there is one, restarted. The session
+        is unchanged.
 
-        `body` is the body of that UPDATE in any valid spelling, with AS numbers of four octets, whatever the session has, and one kind of routes:
-        withdrawn, announced, or those of one of the multiprotocol attributes (RFC 7606, section 5.1). A peer with AS numbers of two octets gets it as
+        `body` is the body of that UPDATE in any valid form, with 4-octet AS numbers, whatever the session has, and one kind of routes:
+        withdrawn, announced, or those of one of the multiprotocol attributes (RFC 7606, section 5.1). A peer with 2-octet AS numbers gets it as
         `narrow` writes it.
 
         WrongState: it isn't Established, whatever the body is. Refused: the body isn't accepted whole, has routes of several kinds, or is too long, as
@@ -318,7 +318,7 @@ def families_left_out(config: Config, message: Message) -> str:
 
 
 def said_by(heard: CHeard, octets: bytes, sent: bytes, context: Context) -> Message:
-    """The message of what was heard by some octets, which the message `sent` answers."""
+    """The received message in some octets, which the message `sent` answers."""
     verdict = VERDICTS[heard.heard]
     data = {"notification": octets, "reset": sent}.get(verdict, b"")[NOTIFICATION:]
     is_header = verdict == "reset" and heard.code == 1

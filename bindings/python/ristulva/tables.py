@@ -17,7 +17,7 @@ if typing.TYPE_CHECKING:
     Rows = numpy.ndarray[typing.Any, numpy.dtype[numpy.void]]
     Array = numpy.ndarray[typing.Any, numpy.dtype[typing.Any]]
 
-# Of each kind of rows: the call that writes them, how many octets a row has, and its fields, each with its form and its offset. An address is two
+# Of each kind of rows: the call that writes them, the length of a row, and its fields, each with its form and its offset. An address is two
 # numbers: so it is compared, sorted and joined. All fields but these two are in the machine's order.
 PLACE = [("at", "u2"), ("len", "u2")]
 KINDS: dict[str, tuple[str, int, dict[str, tuple[typing.Any, int]]]] = {
@@ -34,16 +34,16 @@ KINDS: dict[str, tuple[str, int, dict[str, tuple[typing.Any, int]]]] = {
         "message": ("u8", 0), "global": ("u4", 8), "local1": ("u4", 12), "local2": ("u4", 16),
     }),
 }
-# So many octets are looked through at a time for what may be IPv6 routes.
+# The number of octets that are searched at a time for what may be IPv6 routes.
 PIECE = 1 << 18
 
 
 class Reset(UserWarning):
-    """A message of a stream resets the session: what stands behind it isn't read."""
+    """A message of a stream resets the session: what follows it isn't read."""
 
 
 class Batch(typing.NamedTuple):
-    """What came of reading octets."""
+    """The result of reading octets."""
 
     rows: Rows
     taken: int  # the octets of the messages that were read
@@ -51,7 +51,7 @@ class Batch(typing.NamedTuple):
 
 
 def view_of(octets: typing.Any) -> Array:
-    """The octets of a buffer, where they lie; a copy only where they don't lie one behind the other."""
+    """The octets of a buffer, in place; a copy only where they aren't contiguous."""
     import numpy
 
     with memoryview(octets) as view:
@@ -70,19 +70,19 @@ def form_of(kind: str) -> typing.Any:
 
 
 def written(kind: str, octets: Array, context: Context, rows: Rows) -> tuple[int, int, int]:
-    """One call of the library: how many rows it wrote, how many octets it took, and its status."""
+    """One call of the library: the number of rows it wrote, of octets it consumed, and its status."""
     count, taken = c_size_t(), c_size_t()
     status: int = getattr(LIBRARY, KINDS[kind][0])(context.said(), octets.ctypes.data, octets.size, rows.ctypes.data, rows.size, count, taken)
     return count.value, taken.value, status
 
 
 def room_for(rows: int, octets: int, more: int) -> int:
-    """Room for the rows of some more octets, where those so far had so many: a little more than that, and always enough for a message."""
+    """Room for the rows of some more octets, by the rows of those so far: a little more than that, and always enough for a message."""
     return BATCH + more * rows * 9 // (octets * 8 or 1)
 
 
 def estimated(kind: str, octets: Array, context: Context) -> int:
-    """Room for the rows of octets, as the first of these tell; memory that isn't written is none of the machine's. No octets have more rows."""
+    """Room for the rows of octets, estimated from the first of these; memory that isn't written isn't allocated by the machine. No octets have more rows."""
     import numpy
 
     if octets.size <= 16 * BATCH:
@@ -92,7 +92,7 @@ def estimated(kind: str, octets: Array, context: Context) -> int:
 
 
 def read(kind: str, octets: Array, context: Context, step: int = 0) -> Batch:
-    """Reads messages into rows, up to one that resets the session or is incomplete. `step` is for how many rows there is room at each call; where it is 0
+    """Reads messages into rows, up to one that resets the session or is incomplete. `step` is the number of rows with room at each call; where it is 0
     nearly always one call is enough."""
     import numpy
 
@@ -111,7 +111,7 @@ def read(kind: str, octets: Array, context: Context, step: int = 0) -> Batch:
 
 
 def hits(octets: Array) -> typing.Iterator[Array]:
-    """Where the value of MP_REACH_NLRI or MP_UNREACH_NLRI for IPv6 unicast may begin (RFC 4760, sections 3 and 4), behind a type 14 or 15 and a length of
+    """Where the value of MP_REACH_NLRI or MP_UNREACH_NLRI for IPv6 unicast may begin (RFC 4760, sections 3 and 4), after a type 14 or 15 and a length of
     one octet or two: the offsets, some at a time."""
     import numpy
 
@@ -144,7 +144,7 @@ def loses_ip6(octets: Array, context: Context, starts: Array) -> bool:
 
 class Table:
     """What a stream says, as arrays, a row for each thing that is said. The field `message` of each row is the offset of its message in the stream; rows
-    come in the order of the stream, so that these rise.
+    are in the order of the stream, so that these ascend.
 
     The stream's octets aren't copied: they have to stay as they are while more is read of them, and a file that is mapped can be closed once nothing
     refers to its table any more. Threads may share it."""
@@ -153,8 +153,8 @@ class Table:
         whole = view_of(octets)
         batch = read("routes", whole, context)
         self.context = context
-        self.taken = batch.taken  # how many octets the messages have that were read
-        self.rest = whole.size - batch.taken  # and how many stand behind these: 0 where all was read
+        self.taken = batch.taken  # the total length of the messages that were read
+        self.rest = whole.size - batch.taken  # and the number of octets after these: 0 where all was read
         # The message that resets the session, or the header with a fault; None where there is none.
         self.reset = judge(whole[batch.taken :], context, batch.taken) if batch.status == REFUSED else None
         self._octets, self._rows = whole, {"routes": batch.rows}
@@ -175,14 +175,14 @@ class Table:
 
         `message`; `afi` (1 for IPv4, 2 for IPv6) and `length` of its prefix, whose address is `high`, its upper 64 bits, and `low`, the others; an IPv4
         address is the upper half of `high`. `announced`, else it is withdrawn; `verdict`, 2 where the UPDATE is accepted, 5 where it is treated as a
-        withdrawal. Of what is announced `origin_as`, the AS that it came from, where `has_origin_as` is set, as `Facts.origin_as` has it; and
-        where the values of `as_path`, `as4_path`, `communities` and `large_communities` lie, each as `at`, the offset in the message, and `len`."""
+        withdrawal. Of what is announced `origin_as`, its origin AS, where `has_origin_as` is set, as `Facts.origin_as`; and
+        the spans of the values of `as_path`, `as4_path`, `communities` and `large_communities`, each as `at`, the offset in the message, and `len`."""
         return self._read("routes")
 
     @property
     def path_numbers(self) -> Rows:
         """The numbers of each accepted UPDATE's AS path, the nearest first, which is what AS_PATH and AS4_PATH give together (RFC 6793, section 4.2.3):
-        `number`, in which `segment` of the path it stands, from 0, and whether that is a `set`."""
+        `number`, the index `segment` of its segment in the path, from 0, and whether that is a `set`."""
         return self._read("path_numbers")
 
     @property
@@ -204,10 +204,10 @@ class Table:
 
 
 def table(octets: typing.Any, context: Context) -> Table:
-    """The routes of a stream, and what is said of them, up to the first message that resets the session. `octets` is bytes or any other buffer, as a
+    """The routes of a stream, and what is reported of them, up to the first message that resets the session. `octets` is bytes or any other buffer, as a
     mapped file; it isn't copied. It needs numpy.
 
-    Where the stream ends inside a message, a warning `Incomplete` says how many octets of it there are. Where a message resets the session, a warning
+    Where the stream ends inside a message, a warning `Incomplete` has the number of its octets. Where a message resets the session, a warning
     `Reset` says where, and `Table.reset` is that message. Where UPDATEs have attributes of IPv6 unicast, and the context no `ip6`,
     `FamilyNotAgreed` says so."""
     try:
@@ -243,7 +243,7 @@ def joined(routes: Rows, values: Rows) -> tuple[Array, Array]:
 
 
 def columns(rows: Rows) -> dict[str, Array]:
-    """The fields of rows as columns, where they lie; the offset and the length of a place apart. Addresses alone are copied, into the machine's order."""
+    """The fields of rows as columns, in place; the offset and the length of a span separately. Only addresses are copied, into the machine's order."""
     found: dict[str, Array] = {}
     for name in rows.dtype.names or ():
         column = rows[name]
@@ -255,12 +255,12 @@ def columns(rows: Rows) -> dict[str, Array]:
 
 
 def frame(rows: Rows) -> typing.Any:
-    """Rows as a DataFrame of pandas, which has to be there, over the same memory; addresses alone are copied."""
+    """Rows as a DataFrame of pandas, which has to be installed, over the same memory; only addresses are copied."""
     return importlib.import_module("pandas").DataFrame(columns(rows), copy=False)
 
 
 def arrow(rows: Rows) -> typing.Any:
-    """Rows as a Table of pyarrow, which has to be there. In Arrow a column's values lie one behind the other, so that each is copied, once."""
+    """Rows as a Table of pyarrow, which has to be installed. In Arrow a column's values are contiguous, so that each is copied, once."""
     import numpy
 
     return importlib.import_module("pyarrow").table({name: numpy.ascontiguousarray(column) for name, column in columns(rows).items()})

@@ -1,5 +1,5 @@
-//! Measures what rows of a whole stream take beside cursors over each message: both read the
-//! routes and the AS that each came from.
+//! Measures rows of a whole stream against cursors over each message: both read the routes and
+//! their origin ASes.
 //!
 //!     checks/bench/stream 120000 7 > stream.bin
 //!     cargo run --release --example rows stream.bin
@@ -8,7 +8,7 @@ use ristulva::{messages, write_rows, Context, RouteRow, ROWS};
 use std::time::Instant;
 use std::{env, fs, io};
 
-/// How many routes there are, and the sum of the AS numbers that they came from.
+/// The number of routes, and the sum of their origin AS numbers.
 type Seen = (u64, u64);
 
 fn by_rows(context: &Context, octets: &[u8], rows: &mut [RouteRow]) -> Seen {

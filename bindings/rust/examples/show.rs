@@ -32,7 +32,7 @@ fn show(context: &Context, octets: &[u8], mut out: impl Write) -> io::Result<boo
         write!(out, "{message}")?;
         good &= !matches!(message.outcome(), Outcome::Withdraw(_));
         if let Outcome::Reset { .. } = message.outcome() {
-            // A header with a fault doesn't tell where its message ends.
+            // The end of a message can't be known from a faulty header.
             let is_header = message.octets().is_empty();
             ends = Some(if is_header { "head" } else { "reset" });
         }

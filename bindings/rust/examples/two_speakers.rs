@@ -1,6 +1,6 @@
 use ristulva::{Action, Actions, Config, Error, Event, Session};
 
-/// A session, and the octets that came for it.
+/// A session, and the octets that arrived for it.
 struct Speaker {
     session: Session,
     held: Vec<u8>,
@@ -13,7 +13,7 @@ impl Speaker {
         Ok(Speaker { session, held })
     }
 
-    /// Hears the first message that came, if there is one.
+    /// Passes the first message that arrived to the session, if there is one.
     fn hear(&mut self, peer: &mut Speaker) -> bool {
         let Some(heard) = self.session.hear(&self.held) else {
             return false;
@@ -31,13 +31,13 @@ fn carry_out(actions: Actions<'_>, peer: &mut Speaker) {
             Action::Send(message) => peer.held.extend(message),
             Action::Announce(update) => update.nlri().for_each(|prefix| println!("{prefix}")),
             Action::Flush => println!("all routes are gone"),
-            // Between two buffers there is no connection to seek, and no timer runs out.
+            // Between two buffers there is no connection to seek, and no timer expires.
             _ => {}
         }
     }
 }
 
-/// Tells a speaker what happens; then both hear all that comes of it.
+/// Passes an event to a speaker; then both receive all that follows.
 fn happens(event: Event, one: &mut Speaker, other: &mut Speaker) {
     carry_out(one.session.event(event), other);
     while one.hear(other) || other.hear(one) {}

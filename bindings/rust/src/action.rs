@@ -27,15 +27,13 @@ impl Timer {
 #[derive(Clone, Debug, PartialEq, Eq)]
 pub enum Action<'a> {
     /// Seek a connection to the peer. [`Event::Connected`](crate::Event::Connected) or
-    /// [`Event::Failed`](crate::Event::Failed) tells what came of it.
+    /// [`Event::Failed`](crate::Event::Failed) reports the result.
     Seek,
-    /// Close the connection, or give up the one that is sought. What came by it and wasn't taken is
-    /// dropped.
+    /// Close the connection, or abandon the attempt. Octets received and not consumed are dropped.
     Close,
     /// Send the octets of a message: at most [`MESSAGE`](crate::MESSAGE).
     Send(Vec<u8>),
-    /// Start a timer, or start it anew. [`Event::Expired`](crate::Event::Expired) tells that it ran
-    /// out.
+    /// Start or restart a timer. [`Event::Expired`](crate::Event::Expired) reports that it expired.
     Arm {
         /// The timer.
         timer: Timer,
@@ -44,19 +42,19 @@ pub enum Action<'a> {
     },
     /// Stop a timer.
     Disarm(Timer),
-    /// Take the routes of the UPDATE that was heard: those it announces and those it withdraws.
-    /// Attributes that its [notes](Update::notes) tell of are discarded.
+    /// Accept the routes of the received UPDATE: those it announces and those it withdraws.
+    /// Attributes with [notes](Update::notes) are discarded.
     Announce(Update<'a>),
-    /// Treat the UPDATE that was heard as a withdrawal of all its routes, its
+    /// Treat the received UPDATE as a withdrawal of all its routes, its
     /// [prefixes](Update::prefixes) (RFC 7606, section 2).
     Withdraw(Update<'a>),
-    /// Drop all routes of the peer: they are gone with the session.
+    /// Drop all routes of the peer: the session has ended.
     Flush,
 }
 
 impl<'a> Action<'a> {
-    /// The action that C tells, of which `message` is to be sent, and `update` was heard; each is
-    /// there where an action asks for it.
+    /// The action that C reports, of which `message` is to be sent, and `update` was received; each
+    /// is present where an action needs it.
     fn of(told: raw::Action, message: &[u8], update: Option<Update<'a>>) -> Action<'a> {
         let update = || update.expect("an UPDATE was heard");
         match told.kind {
@@ -82,13 +80,13 @@ impl<'a> Action<'a> {
 #[derive(Clone, Debug, Default)]
 #[must_use = "a session goes on as if all that it asks for were done"]
 pub struct Actions<'a> {
-    /// Those from `next` on are left.
+    /// Those from `next` on remain.
     list: [Option<Action<'a>>; raw::ACTIONS + 1],
     next: usize,
 }
 
 impl<'a> Actions<'a> {
-    /// What C tells: see [`Action::of`].
+    /// The actions that C reports: see [`Action::of`].
     pub(crate) fn of(told: &raw::Actions, message: &[u8], update: Option<Update<'a>>) -> Self {
         let mut actions = Actions::default();
         for (place, told) in actions.list.iter_mut().zip(&told.list[..told.count]) {
@@ -97,7 +95,7 @@ impl<'a> Actions<'a> {
         actions
     }
 
-    /// To send a message, and then what C tells that is to be done where it is sent.
+    /// Sending a message, and then what C reports is to be done once it is sent.
     pub(crate) fn sending(message: &[u8], told: &raw::Actions) -> Self {
         let mut actions = Actions::of(told, &[], None);
         actions.list.rotate_right(1);

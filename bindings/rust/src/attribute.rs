@@ -4,7 +4,7 @@ use std::iter::FusedIterator;
 /// A path attribute as it lies in its field (RFC 4271, section 4.3).
 #[derive(Clone, Copy, Debug, PartialEq, Eq, Hash)]
 pub struct Attribute<'a> {
-    /// Where its flags stand in the message, in octets.
+    /// The offset of its flags in the message.
     pub at: usize,
     /// Its flags: 128 optional, 64 transitive, 32 partial, 16 extended length.
     pub flags: u8,

@@ -1,27 +1,27 @@
 use crate::{raw, Error, Message, PARTS};
 use std::fmt;
 
-/// What came of a message that is cleaned.
+/// The result of cleaning a message.
 #[derive(Clone, Debug, PartialEq, Eq)]
 pub enum Cleaned {
-    /// It is handed on, or what stands for it is.
+    /// It is passed on, or its replacement is.
     HandedOn(HandedOn),
-    /// The cleaned stream ends before it: nothing is handed on of it, nor of a later message.
+    /// The cleaned stream ends before it: nothing is passed on of it, nor of a later message.
     Ends(End),
 }
 
-/// What is handed on of a message, and how much of it was left out.
+/// What is passed on of a message, and how much of it was left out.
 #[derive(Clone, Debug, PartialEq, Eq)]
 pub struct HandedOn {
-    /// A whole message in its one written form, never longer than the one that came. In the same
-    /// context it is accepted without a note, and is handed on as it is.
+    /// A whole message in its one written form, never longer than the received one. In the same
+    /// context it is accepted without a note, and is passed on unchanged when cleaned again.
     pub message: Vec<u8>,
-    /// How many attributes of an UPDATE that is accepted are discarded: as many as it has
+    /// The number of attributes of an accepted UPDATE that are discarded: that of its
     /// [notes](crate::Update::notes).
     pub discarded: usize,
-    /// How many others are left out, by their types.
+    /// The number of others left out, by their types.
     pub left_out: usize,
-    /// How many capabilities of an OPEN are left out.
+    /// The number of capabilities of an OPEN that are left out.
     pub capabilities: usize,
 }
 
@@ -51,7 +51,7 @@ impl fmt::Display for End {
     }
 }
 
-/// What the call for C tells, with the octets that it wrote.
+/// What the call for C reports, with the octets that it wrote.
 fn of(told: &raw::Cleaned, message: Vec<u8>) -> Cleaned {
     match told.ends {
         raw::HANDED_ON => Cleaned::HandedOn(HandedOn {
@@ -71,16 +71,17 @@ fn of(told: &raw::Cleaned, message: Vec<u8>) -> Cleaned {
 }
 
 impl Message<'_> {
-    /// What may be handed on of it to a hearer, who learns by it what RFC 7606 has the hearer of the
-    /// message learn.
+    /// What may be passed on of it to a receiver, which learns from it what RFC 7606 has the
+    /// receiver of the message learn.
     ///
-    /// An OPEN is handed on with the first capability of each kind for IPv4 unicast, IPv6 unicast and AS
-    /// numbers of four octets, and no others. An UPDATE that is accepted is handed on without what is
-    /// discarded, and without attributes of unrecognised types that are among `types`; one that is
-    /// treated as a withdrawal as an UPDATE that withdraws its routes. An UPDATE goes on as one to three
-    /// messages: the routes that are gone, those of NLRI, those of MP_REACH_NLRI; routes of IPv4 in the
-    /// classic fields. Where it has no routes, a KEEPALIVE is handed on, unless it came as an
-    /// End-of-RIB (RFC 4724, section 2). `first` is whether the message is the first one of its stream.
+    /// An OPEN is passed on with the first capability of each kind for IPv4 unicast, IPv6 unicast
+    /// and 4-octet AS numbers, and no others. An UPDATE that is accepted is passed on without what
+    /// is discarded, and without attributes of unrecognised types that are among `types`; one that
+    /// is treated as a withdrawal as an UPDATE that withdraws its routes. An UPDATE is passed on in
+    /// one to three messages: withdrawn routes, those of NLRI, those of MP_REACH_NLRI; IPv4 routes
+    /// in the classic fields. Where it has no routes, a KEEPALIVE is passed on, unless it is an
+    /// End-of-RIB (RFC 4724, section 2). `first` is whether the message is the first one of its
+    /// stream.
     ///
     /// ```
     /// use ristulva::{Cleaned, Context};
@@ -96,7 +97,7 @@ impl Message<'_> {
     ///
     /// # Errors
     ///
-    /// None: the library takes no memory for it.
+    /// None: the library allocates nothing for it.
     pub fn clean(&self, first: bool, types: &[u8]) -> Result<Cleaned, Error> {
         let mut message = vec![0; PARTS];
         let (context, octets) = self.judged();

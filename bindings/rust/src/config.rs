@@ -35,7 +35,7 @@ impl Config {
         }
     }
 
-    /// As C has it.
+    /// In C's form.
     pub(crate) fn said(&self) -> raw::Config {
         raw::Config {
             local_as: self.local_as,

@@ -1,6 +1,6 @@
 use crate::raw;
 
-/// What both speakers of a session agreed on by their OPENs. Nothing, where nothing is said.
+/// What both speakers of a session agreed on by their OPENs. By default nothing.
 #[derive(Clone, Copy, Debug, Default, PartialEq, Eq, Hash)]
 pub struct Context {
     /// Both have the same AS number.
@@ -14,7 +14,7 @@ pub struct Context {
 }
 
 impl Context {
-    /// What C tells.
+    /// From C's form.
     pub(crate) fn of(told: &raw::Context) -> Context {
         Context {
             internal: told.internal != 0,
@@ -24,7 +24,7 @@ impl Context {
         }
     }
 
-    /// As C has it.
+    /// In C's form.
     pub(crate) fn said(&self) -> raw::Context {
         raw::Context {
             internal: self.internal.into(),

@@ -2,12 +2,12 @@ use crate::message::told;
 use crate::{raw, Context, Error, Message, MESSAGE};
 use std::fmt;
 
-/// Reads the messages of a stream whose octets come in pieces, however it is cut (RFC 4271,
+/// Reads the messages of a stream whose octets arrive in pieces, however it is cut (RFC 4271,
 /// section 4.1).
 ///
 /// It holds at most one message. What it gives is what [`messages`](crate::messages) gives of the
-/// whole stream, and behind a [reset](crate::Outcome::Reset) it reads nothing. It goes from thread
-/// to thread, but isn't shared by them.
+/// whole stream, and after a [reset](crate::Outcome::Reset) it reads nothing. It moves between
+/// threads, but isn't shared by them.
 ///
 /// ```
 /// use ristulva::{Context, Decoder, Outcome};
@@ -34,7 +34,7 @@ use std::fmt;
 pub struct Decoder {
     decoder: raw::Decoder,
     context: Context,
-    /// Where the message that is pulled stands, and the data of a NOTIFICATION.
+    /// The buffers of the pulled message, and of the data of a NOTIFICATION.
     message: Box<raw::Room>,
     data: Box<raw::Data>,
     offset: u64,
@@ -56,11 +56,11 @@ impl Decoder {
         })
     }
 
-    /// The next message that is whole by octets of the piece, with those that are held in front of
-    /// them. What is taken is gone from the front of the piece.
+    /// The next message that is whole with octets of the piece, after those that are held. What is
+    /// consumed is removed from the beginning of the piece.
     ///
-    /// `None` where all of the piece was taken, and the message needs more; or behind a reset, where
-    /// nothing is taken.
+    /// `None` where all of the piece was consumed, and the message needs more; or after a reset,
+    /// where nothing is consumed.
     ///
     /// The message borrows the decoder, until the next call.
     pub fn pull(&mut self, piece: &mut &[u8]) -> Option<Message<'_>> {
@@ -73,8 +73,8 @@ impl Decoder {
         Some(Message::of(&self.context, octets, &verdict).at(offset))
     }
 
-    /// How many octets of a message that isn't whole it holds. Where a stream ends, 0 says that it
-    /// ends behind a message, or behind a reset.
+    /// The octets of an incomplete message that it holds. Where a stream ends, 0 means that it
+    /// ends after a message, or after a reset.
     pub fn held(&self) -> usize {
         self.decoder.held()
     }

@@ -25,7 +25,7 @@ pub enum Error {
 }
 
 impl Error {
-    /// The error that a status tells, of those that the calls with errors answer.
+    /// The error of a status, of those that the calls with errors answer.
     pub(crate) fn of(status: u32) -> Error {
         match status {
             raw::MEMORY => Error::Memory,

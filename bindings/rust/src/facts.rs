@@ -1,10 +1,10 @@
 use crate::{raw, Message};
 use std::net::{IpAddr, Ipv4Addr, Ipv6Addr};
 
-/// Where a route came from (RFC 4271, section 5.1.1).
+/// The origin of a route (RFC 4271, section 5.1.1).
 #[derive(Clone, Copy, Debug, PartialEq, Eq, Hash)]
 pub enum Origin {
-    /// IGP: inside the system that it came from.
+    /// IGP: inside the originating AS.
     Igp,
     /// EGP: by the Exterior Gateway Protocol.
     Egp,
@@ -12,7 +12,7 @@ pub enum Origin {
     Incomplete,
 }
 
-/// What everybody asks of an UPDATE that is accepted, of the attributes that are kept alone.
+/// Common attributes of an UPDATE that is accepted, only of those that are kept.
 ///
 /// ```
 /// # let body = [
@@ -38,7 +38,7 @@ pub struct Facts<'a> {
     pub next_hop: Option<Ipv4Addr>,
     /// The next hop of MP_REACH_NLRI: for IPv6 its global address.
     pub mp_next_hop: Option<IpAddr>,
-    /// The link-local address behind that one (RFC 2545, section 3).
+    /// The link-local address after that one (RFC 2545, section 3).
     pub link_local: Option<Ipv6Addr>,
     /// MULTI_EXIT_DISC.
     pub med: Option<u32>,
@@ -49,7 +49,7 @@ pub struct Facts<'a> {
     /// The AS number and the address of the aggregator that AGGREGATOR and AS4_AGGREGATOR give
     /// together (RFC 6793, section 4.2.3).
     pub aggregator: Option<(u32, Ipv4Addr)>,
-    /// The AS that the route came from: the last number of the path that AS_PATH and AS4_PATH give
+    /// The origin AS of the route: the last number of the path that AS_PATH and AS4_PATH give
     /// together (RFC 6793, section 4.2.3). `None` where that is empty or ends in a set (RFC 6811,
     /// section 2).
     pub origin_as: Option<u32>,
@@ -81,13 +81,13 @@ fn mp_next_hop(hops: &raw::NextHops) -> Option<IpAddr> {
 }
 
 impl<'a> Facts<'a> {
-    /// NEXT_HOP, and the next hop of MP_REACH_NLRI: those that there are.
+    /// NEXT_HOP, and the next hop of MP_REACH_NLRI: those that are present.
     pub fn next_hops(&self) -> impl Iterator<Item = IpAddr> {
         let hops = [self.next_hop.map(IpAddr::from), self.mp_next_hop];
         hops.into_iter().flatten()
     }
 
-    /// What C tells of these octets.
+    /// What C reports of these octets.
     fn of(octets: &'a [u8], told: &raw::Facts) -> Facts<'a> {
         let (hops, paths) = (&told.hops, &told.paths);
         let part = |has, span: raw::Span| given(has, span.of(octets));
@@ -119,8 +119,8 @@ impl<'a> Facts<'a> {
 }
 
 impl<'a> Message<'a> {
-    /// What everybody asks of it, of what is kept: `None` of other messages than an UPDATE that is
-    /// accepted.
+    /// Its common attributes, of those that are kept: `None` of other messages than an UPDATE that
+    /// is accepted.
     pub fn facts(&self) -> Option<Facts<'a>> {
         let (context, octets) = self.judged();
         raw::facts(&context.said(), octets).map(|told| Facts::of(octets, &told))

@@ -3,7 +3,7 @@ use crate::Message;
 use std::fmt;
 use std::ops::Range;
 
-/// What a field is. A prefix's kind says its family and where it stands. It is printed by the name
+/// What a field is. A prefix's kind says its family and its field. It is printed by the name
 /// that `bgp explain` has.
 #[derive(Clone, Copy, Debug, PartialEq, Eq, Hash)]
 pub enum FieldKind {
@@ -93,7 +93,7 @@ pub enum FieldKind {
     ErrorSubcode,
     /// A NOTIFICATION's data.
     Data,
-    /// What can't be read as what ought to stand there, up to the end of what encloses it: the
+    /// Octets that can't be read as what should be there, up to the end of what encloses it: the
     /// capability, parameter, attribute, field or message.
     Unread,
 }
@@ -178,8 +178,8 @@ pub struct Field<'a> {
 }
 
 impl<'a> Message<'a> {
-    /// All its fields, in their order: their octets joined are the message, whatever it is, or the
-    /// header alone where that has a fault. Where it is accepted without a note none is
+    /// All its fields, in their order: their octets concatenated are the message, whatever it is,
+    /// or only the header where that has a fault. Where it is accepted without a note none is
     /// [unread](FieldKind::Unread).
     ///
     /// ```
@@ -205,8 +205,8 @@ impl<'a> Message<'a> {
         (span.len > 0).then(|| at..at + span.len as usize)
     }
 
-    /// The section of an RFC by which the session ends, as `bgp explain` prints it; "own rule" where
-    /// no RFC has it so. Empty where it doesn't end.
+    /// The section of an RFC by which the session ends, as `bgp explain` prints it; "own rule"
+    /// where no RFC has the rule. Empty where it doesn't end.
     pub fn fault_section(&self) -> String {
         let (context, octets) = self.judged();
         raw::fault_section(&context.said(), octets)

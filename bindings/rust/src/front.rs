@@ -30,7 +30,7 @@ impl Kind {
 pub enum Front<'a> {
     /// Less than a message.
     More {
-        /// How many octets the message will have at least: 19 until its header is there, then what
+        /// The least length that the message will have: 19 until its header is complete, then what
         /// that says.
         wanted: usize,
     },
@@ -41,7 +41,7 @@ pub enum Front<'a> {
         /// Its octets, header included: 19 to [`MESSAGE`](crate::MESSAGE).
         octets: &'a [u8],
     },
-    /// A header that begins no message: nothing behind it can be read.
+    /// A header that doesn't begin a message: nothing after it can be read.
     Fault {
         /// The code of the NOTIFICATION that answers it: 1.
         code: u8,
@@ -52,7 +52,7 @@ pub enum Front<'a> {
     },
 }
 
-/// Tells what octets of a stream begin with. What stands behind a message has no effect.
+/// Classifies what octets of a stream begin with. Octets after a message are ignored.
 pub fn front(octets: &[u8]) -> Front<'_> {
     let found = raw::front(octets);
     match found.what {

@@ -359,7 +359,7 @@ pub struct LargeCommunityRow {
     reserved: u32,
 }
 
-// What the header says of the rows, which lie in a caller's memory by the thousand.
+// What the header says of the rows, of which the caller's memory has thousands.
 const _: () = assert!(std::mem::size_of::<RouteRow>() == 56);
 const _: () = assert!(std::mem::size_of::<NumberRow>() == 16);
 const _: () = assert!(std::mem::size_of::<CommunityRow>() == 16);

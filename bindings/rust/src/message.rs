@@ -5,10 +5,10 @@ use std::iter::FusedIterator;
 /// The octets of a header.
 pub(crate) const HEADER: usize = 19;
 
-/// The octets of a NOTIFICATION in front of its data: the header, its code and its subcode.
+/// The length of a NOTIFICATION before its data: the header, its code and its subcode.
 pub(crate) const NOTIFICATION: usize = 21;
 
-/// How many octets of text most messages have room in.
+/// The octets of text that most messages have room in.
 const LINES: usize = 4096;
 
 /// What a message means for its session (RFC 4271, section 6; RFC 7606).
@@ -16,11 +16,11 @@ const LINES: usize = 4096;
 pub enum Outcome<'a> {
     /// An OPEN is accepted.
     Open(Open<'a>),
-    /// An UPDATE is accepted. Attributes that its [notes](Update::notes) tell of are discarded.
+    /// An UPDATE is accepted. Attributes with [notes](Update::notes) are discarded.
     Update(Update<'a>),
     /// An UPDATE is treated as a withdrawal of all its routes (RFC 7606, section 2).
     Withdraw(Update<'a>),
-    /// A NOTIFICATION came: the peer has ended the session.
+    /// A NOTIFICATION was received: the peer has ended the session.
     Notification {
         /// Its code (RFC 4271, section 4.5).
         code: u8,
@@ -47,9 +47,9 @@ pub enum Outcome<'a> {
 /// It is printed as the lines that `bgp show` prints of it.
 #[derive(Clone, Debug, PartialEq, Eq)]
 pub struct Message<'a> {
-    /// The message, or its header alone where that has a fault.
+    /// The message, or only its header where that has a fault.
     octets: &'a [u8],
-    /// How many octets the message has; 0 where its header has a fault.
+    /// The length of the message; 0 where its header has a fault.
     len: usize,
     context: Context,
     offset: u64,
@@ -69,17 +69,17 @@ impl<'a> Message<'a> {
     }
 
     /// Its octets, header included: 19 to [`MESSAGE`](crate::MESSAGE), or none where its header has
-    /// a fault. The next message of the stream stands behind them.
+    /// a fault. The next message of the stream follows them.
     pub fn octets(&self) -> &'a [u8] {
         &self.octets[..self.len]
     }
 
-    /// The octets behind its header.
+    /// The octets after its header.
     pub fn body(&self) -> &'a [u8] {
         self.octets().get(HEADER..).unwrap_or_default()
     }
 
-    /// The context in which it was judged, and the octets: those of the header alone where that has
+    /// The context in which it was judged, and the octets: only those of the header where that has
     /// a fault.
     pub(crate) fn judged(&self) -> (&Context, &'a [u8]) {
         (&self.context, self.octets)
@@ -90,7 +90,7 @@ impl<'a> Message<'a> {
         &self.outcome
     }
 
-    /// The same as a value of its own.
+    /// The outcome as an owned value.
     pub fn into_outcome(self) -> Outcome<'a> {
         self.outcome
     }
@@ -100,7 +100,7 @@ impl<'a> Message<'a> {
         self.offset
     }
 
-    /// The same message at another offset of its stream, which the first of its lines tells.
+    /// The same message at another offset of its stream, which the first of its lines prints.
     pub fn at(self, offset: u64) -> Message<'a> {
         Message { offset, ..self }
     }
@@ -133,7 +133,7 @@ impl fmt::Display for Message<'_> {
     }
 }
 
-/// How many octets a verdict tells of: those of the message, or of its header where that has a fault.
+/// The length of what a verdict is about: the message, or its header where that has a fault.
 pub(crate) fn told(verdict: &raw::Verdict) -> usize {
     match verdict.len as usize {
         0 => HEADER,
@@ -141,7 +141,7 @@ pub(crate) fn told(verdict: &raw::Verdict) -> usize {
     }
 }
 
-/// The outcome that a verdict tells.
+/// The outcome of a verdict.
 fn outcome<'a>(context: &Context, octets: &'a [u8], verdict: &raw::Verdict) -> Outcome<'a> {
     let update = || Update::new(octets, *context, verdict.parts);
     let (code, subcode) = (verdict.code, verdict.subcode);
@@ -169,10 +169,10 @@ fn outcome<'a>(context: &Context, octets: &'a [u8], verdict: &raw::Verdict) -> O
 }
 
 /// Judges the message that octets begin with, in the context of its session; `None` where they are
-/// less than a message, and [`front`](crate::front) tells how many octets are wanted.
+/// less than a message, and [`front`](crate::front) reports the number that is wanted.
 ///
-/// What stands behind the message has no effect, and no outcome depends on other messages. Only a
-/// reset takes memory, for its data.
+/// Octets after the message are ignored, and no outcome depends on other messages. Only a
+/// reset allocates, for its data.
 ///
 /// ```
 /// let keepalive = [[0xff; 16].as_slice(), &[0, 19, 4]].concat();
@@ -183,8 +183,8 @@ fn outcome<'a>(context: &Context, octets: &'a [u8], verdict: &raw::Verdict) -> O
 /// assert_eq!(ristulva::judge(&context, &keepalive[..18]), None);
 /// ```
 pub fn judge<'a>(context: &Context, octets: &'a [u8]) -> Option<Message<'a>> {
-    // Without room the verdict is written all the same, and the data of a NOTIFICATION that came
-    // stand in its octets.
+    // Without room the verdict is written all the same, and the data of a received NOTIFICATION
+    // are in its octets.
     let (status, verdict) = raw::judge(&context.said(), octets, &mut []);
     if status == raw::INCOMPLETE {
         return None;
@@ -203,7 +203,7 @@ pub struct Messages<'a> {
 }
 
 impl<'a> Messages<'a> {
-    /// What stands behind the messages so far: an incomplete message, where all that are whole were
+    /// The octets after the messages so far: an incomplete message, where all that are whole were
     /// given and none was a reset.
     pub fn rest(&self) -> &'a [u8] {
         self.rest
@@ -227,7 +227,7 @@ impl<'a> Iterator for Messages<'a> {
 
 impl FusedIterator for Messages<'_> {}
 
-/// Judges the messages of a stream, the first of which stands at the offset 0.
+/// Judges the messages of a stream, the first of which is at offset 0.
 pub fn messages<'a>(context: &Context, octets: &'a [u8]) -> Messages<'a> {
     Messages {
         context: *context,

@@ -19,7 +19,7 @@ pub enum Why {
     SegmentCount,
     /// A segment of a path goes past the end of the value.
     SegmentEnd,
-    /// An attribute of the type stands before it.
+    /// An attribute of the type precedes it.
     Repeated,
     /// LOCAL_PREF on an external session.
     External,
@@ -29,11 +29,11 @@ pub enum Why {
     Family,
     /// NEXT_HOP without NLRI that it could serve.
     Unneeded,
-    /// An AS4_PATH of which nothing is left.
+    /// An AS4_PATH of which nothing remains.
     Emptied,
     /// The attribute goes past the end of the attributes.
     Cut,
-    /// No attribute of the type is there.
+    /// No attribute of the type is present.
     Missing,
     /// An AS number 0 (RFC 7607).
     AsZero,
@@ -68,7 +68,7 @@ impl fmt::Display for Why {
 /// section 6).
 #[derive(Clone, Copy, Debug, PartialEq, Eq, Hash)]
 pub struct Note {
-    /// Where the attribute's flags stand in the message, in octets; `None` where it is missing.
+    /// The offset of the attribute's flags in the message; `None` where it is missing.
     pub at: Option<usize>,
     /// Its type; 0 for one that is cut off before its type.
     pub kind: u8,
@@ -77,7 +77,7 @@ pub struct Note {
 }
 
 impl Note {
-    /// The section of an RFC by which it is called for, as `bgp explain` prints it.
+    /// The section of an RFC that requires it, as `bgp explain` prints it.
     pub fn section(&self) -> String {
         let why = WHYS.iter().position(|it| *it == self.why).map_or(0, |at| at as u8 + 1);
         raw::note_section(&raw::Note {
@@ -88,7 +88,7 @@ impl Note {
     }
 }
 
-/// The notes on an UPDATE: the attributes by their places, the one that is cut off, and then what
+/// The notes on an UPDATE: the attributes by their offsets, the one that is cut off, and then what
 /// is missing.
 ///
 /// The message was judged once for all of them.

@@ -7,7 +7,7 @@ use std::net::Ipv4Addr;
 /// ```
 /// use ristulva::{judge, Context, Outcome};
 ///
-/// // AS 131073 behind AS_TRANS, 90 seconds, 192.0.2.2, and a parameter with two capabilities.
+/// // AS 131073 after AS_TRANS, 90 seconds, 192.0.2.2, and a parameter with two capabilities.
 /// let body = [4, 0x5b, 0xa0, 0, 90, 192, 0, 2, 2, 10, 2, 8, 65, 4, 0, 2, 0, 1, 2, 0];
 /// let octets = [&[0xff; 16][..], &[0, 39, 1], &body].concat();
 /// let message = judge(&Context::default(), &octets).unwrap();

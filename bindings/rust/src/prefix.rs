@@ -22,7 +22,7 @@ impl fmt::Display for Shown {
 /// The destinations of a route (RFC 4271, section 4.3). It is printed as `10.0.0.0/8`.
 #[derive(Clone, Copy, Debug, PartialEq, Eq, PartialOrd, Ord, Hash)]
 pub struct Prefix {
-    /// The address. Bits behind the length are 0.
+    /// The address. Bits after the length are 0.
     pub address: IpAddr,
     /// The length in bits: at most 32 for IPv4, and 128 for IPv6.
     pub len: u8,
@@ -101,7 +101,7 @@ impl FusedIterator for Prefixes<'_> {}
 pub struct NextHop {
     /// The address, for IPv6 the global one.
     pub address: IpAddr,
-    /// The link-local address that may stand behind a global one (RFC 2545, section 3).
+    /// The link-local address that may follow a global one (RFC 2545, section 3).
     pub link_local: Option<Ipv6Addr>,
 }
 

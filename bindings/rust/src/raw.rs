@@ -1,9 +1,9 @@
 //! The calls of `ristulva.h`, and each as a safe function: the only file with `unsafe`.
 //!
 //! What makes them safe is the same everywhere. A slice's pointer isn't null, also where the slice
-//! is empty, and its length goes with it. What a call writes is behind a `&mut`, so it overlaps
+//! is empty, and its length goes with it. What a call writes is a `&mut`, so it overlaps
 //! nothing else. No call keeps a pointer, and for any octets, cursor and span it reads nothing
-//! outside of what it is handed. Of the calls on a [`Decoder`] and on a [`Session`] their comments tell
+//! outside of what it is given. The comments of the calls on a [`Decoder`] and on a [`Session`] say
 //! the rest.
 
 pub use crate::layout::*;
@@ -26,7 +26,7 @@ pub const MIXED: u32 = 12;
 /// The least room for rows: the most that one message gives.
 pub const BATCH: usize = 4073;
 
-/// What [`Found`] tells.
+/// The values of [`Found`].
 pub const MORE: u8 = 0;
 pub const FOUND: u8 = 1;
 
@@ -41,7 +41,7 @@ pub const RESET: u8 = 6;
 // The most octets of the name of a kind of field.
 pub const FIELD_NAME: usize = 38;
 
-/// What comes of a message that is cleaned.
+/// The results of cleaning a message.
 pub const HANDED_ON: u8 = 0;
 pub const ENDS_RESET: u8 = 1;
 pub const ENDS_LATE_OPEN: u8 = 2;
@@ -128,7 +128,7 @@ extern "C" {
 }
 
 pub fn version() -> u32 {
-    // SAFETY: it takes nothing.
+    // SAFETY: it has no arguments.
     unsafe { ristulva_version() }
 }
 
@@ -205,7 +205,7 @@ pub fn note_section(note: &Note) -> String {
     String::from_utf8_lossy(&text[..written]).into_owned()
 }
 
-/// How many octets the name of a kind of field has, which stands at the beginning of `name`.
+/// The length of the name of a kind of field, which is written to the beginning of `name`.
 pub fn field_name(kind: u32, name: &mut [u8; FIELD_NAME]) -> usize {
     let mut written = 0;
     // SAFETY: see above.
@@ -213,7 +213,7 @@ pub fn field_name(kind: u32, name: &mut [u8; FIELD_NAME]) -> usize {
     written
 }
 
-/// The status, and how many octets the lines have where that is OK or ROOM.
+/// The status, and the length of the lines where that is OK or ROOM.
 pub fn text(context: &Context, place: u64, octets: &[u8], text: &mut [u8]) -> (u32, usize) {
     let mut written = 0;
     let (at, len) = (octets.as_ptr(), octets.len());
@@ -223,7 +223,7 @@ pub fn text(context: &Context, place: u64, octets: &[u8], text: &mut [u8]) -> (u
     (status, written)
 }
 
-/// The status, and how many octets the message has where that is OK or ROOM.
+/// The status, and the length of the message where that is OK or ROOM.
 pub fn encode(context: &Context, body: &[u8], message: &mut [u8]) -> (u32, usize) {
     let mut written = 0;
     let (at, len) = (body.as_ptr(), body.len());
@@ -253,7 +253,7 @@ pub fn reconcile(context: &Context, body: &[u8], message: &mut [u8]) -> (u32, us
     (status, written)
 }
 
-/// The status, how many octets the message has where that is OK or ROOM, and what came of the octets.
+/// The status, the length of the message where that is OK or ROOM, and the result of the octets.
 pub fn clean(
     context: &Context,
     types: &[u8],
@@ -358,7 +358,7 @@ pub fn unreached(value: &[u8]) -> Option<Prefixes> {
     (status == OK).then_some(cursor)
 }
 
-/// What an OPEN says that is accepted; its cursor runs over the same octets.
+/// What an accepted OPEN says; its cursor runs over the same octets.
 pub fn open(octets: &[u8]) -> Option<OpenFields> {
     let mut out = OpenFields::default();
     // SAFETY: see above.
@@ -433,7 +433,7 @@ is_written! {
     LargeCommunityRow: ristulva_large_communities_of,
 }
 
-/// The status, how many rows were written, and how many octets were taken.
+/// The status, the number of rows written, and of octets consumed.
 pub fn write_rows<Row: IsWritten>(
     context: &Context,
     octets: &[u8],
@@ -508,7 +508,7 @@ pub struct Decoder(UnsafeCell<Handle>);
 unsafe impl Send for Decoder {}
 
 impl Decoder {
-    /// A decoder, or the status that says why there is none.
+    /// A decoder, or the status where there is none.
     pub fn new(context: &Context) -> Result<Decoder, u32> {
         let mut handle = Handle {
             body: ptr::null_mut(),
@@ -520,8 +520,8 @@ impl Decoder {
         }
     }
 
-    /// How many octets of the piece were taken, and the verdict, which is none where that isn't OK:
-    /// where INCOMPLETE all were taken, and where a reset was told none.
+    /// The number of octets of the piece consumed, and the verdict, which is none where that isn't
+    /// OK: where INCOMPLETE all were consumed, and after a reset none.
     pub fn pull(
         &mut self,
         piece: &[u8],
@@ -540,7 +540,7 @@ impl Decoder {
         (taken, (status == OK).then_some(out))
     }
 
-    /// How many octets of an incomplete message it holds.
+    /// The number of octets of an incomplete message that it holds.
     pub fn held(&self) -> usize {
         let mut held = 0;
         // SAFETY: see above.
@@ -551,27 +551,27 @@ impl Decoder {
 
 impl Drop for Decoder {
     fn drop(&mut self) {
-        // SAFETY: see above. It has a decoder, and nothing is handed the handle behind this.
+        // SAFETY: see above. It has a decoder, and nothing is given the handle after this.
         unsafe { ristulva_decoder_free(self.0.get()) };
     }
 }
 
-/// What a session asks for, and how many octets it has written into the room of a message.
+/// What a session asks for, and the number of octets it has written into the room of a message.
 pub type Told = (Actions, usize);
 
 /// A session, which is freed when it is dropped.
 ///
 /// A call may write its handle, whatever it answers, so that is in a cell, which threads don't
-/// share: so one call at a time is handed it. Nothing else has it, and only `new` and `drop` change
+/// share: so one call at a time is given it. Nothing else has it, and only `new` and `drop` change
 /// whether it has a session.
 pub struct Session(UnsafeCell<Handle>);
 
-// SAFETY: a handle may go from thread to thread. What it points to is memory of its own, taken from
+// SAFETY: a handle may move between threads. What it points to is memory of its own, taken from
 // `malloc`, and no call keeps anything of the thread that makes it.
 unsafe impl Send for Session {}
 
 impl Session {
-    /// A session, or the status that says why there is none.
+    /// A session, or the status where there is none.
     pub fn new(config: &Config) -> Result<Session, u32> {
         let mut handle = Handle {
             body: ptr::null_mut(),
@@ -599,7 +599,7 @@ impl Session {
         (told, written)
     }
 
-    /// Nothing where the octets are less than a message, or where the connection doesn't stand.
+    /// Nothing where the octets are less than a message, or where the connection isn't up.
     pub fn hear(&mut self, octets: &[u8], message: &mut Room) -> Option<(Heard, Told)> {
         let (mut heard, mut told, mut written) = (Heard::default(), Actions::default(), 0);
         let (handle, at, len) = (self.0.get(), octets.as_ptr(), octets.len());
@@ -619,7 +619,7 @@ impl Session {
         (status == OK).then_some((context, hold))
     }
 
-    /// What the peer said, in OpenConfirm and Established.
+    /// The parameters of the peer's OPEN, in OpenConfirm and Established.
     pub fn peer(&self) -> Option<Peer> {
         let mut peer = Peer::default();
         // SAFETY: see above.
@@ -627,8 +627,8 @@ impl Session {
         (status == OK).then_some(peer)
     }
 
-    /// How many codes are written to the front of a room that is enough for all, in OpenConfirm
-    /// and Established.
+    /// The number of codes written to the beginning of a room that is enough for all, in
+    /// OpenConfirm and Established.
     pub fn codes(&self, codes: &mut [u8; 256]) -> Option<usize> {
         let (mut written, handle) = (0, self.0.get());
         // SAFETY: see above.
@@ -638,7 +638,7 @@ impl Session {
         (status == OK).then_some(written)
     }
 
-    /// How many octets the own OPEN has, which is written to the front of the room.
+    /// The length of the own OPEN, which is written to the beginning of the room.
     pub fn open(&self, message: &mut Room) -> usize {
         let (mut written, into, room) = (0, message.as_mut_ptr(), message.len());
         // SAFETY: see above.
@@ -646,7 +646,7 @@ impl Session {
         written
     }
 
-    /// What is to be done when what is written is sent, or the status that says why nothing is.
+    /// What is to be done when what is written is sent, or the status where nothing is.
     pub fn send(&self, body: &[u8], message: &mut Room) -> Result<Told, u32> {
         let (mut told, mut written) = (Actions::default(), 0);
         let (handle, at, len) = (self.0.get(), body.as_ptr(), body.len());
@@ -663,7 +663,7 @@ impl Session {
 
 impl Drop for Session {
     fn drop(&mut self) {
-        // SAFETY: see above. It has a session, and nothing is handed the handle behind this.
+        // SAFETY: see above. It has a session, and nothing is given the handle after this.
         unsafe { ristulva_session_free(self.0.get()) };
     }
 }

@@ -28,20 +28,20 @@ pub enum Stop {
     Reset,
 }
 
-/// What came of writing rows.
+/// The result of writing rows.
 #[derive(Clone, Copy, Debug, PartialEq, Eq, Hash)]
 pub struct Written {
-    /// How many rows.
+    /// The number of rows.
     pub rows: usize,
-    /// How many octets the messages have that were read, also those without a row.
+    /// The total length of the messages that were read, also those without a row.
     pub octets: usize,
-    /// Why nothing can be read behind them; `None` where they are all octets, or the rows of the
+    /// Why nothing can be read after them; `None` where they are all octets, or the rows of the
     /// next message didn't fit.
     pub stop: Option<Stop>,
 }
 
-/// Writes what a stream says to the beginning of `rows`, message by message: of as many whole
-/// messages as there is room for. Nothing is allocated, and the rest of `rows` is as it was.
+/// Writes what a stream says to the beginning of `rows`, message by message: for as many whole
+/// messages as fit. Nothing is allocated, and the rest of `rows` is unchanged.
 ///
 /// Routes of a family that isn't in use aren't given: see [`Routes::loses_ip6`](crate::Routes).
 ///
@@ -122,13 +122,13 @@ impl RouteRow {
         self.verdict == raw::WITHDRAW
     }
 
-    /// The AS that it came from, of what is announced: see [`Facts`](crate::Facts).
+    /// Its origin AS, where it is announced: see [`Facts`](crate::Facts).
     pub fn origin_as(&self) -> Option<u32> {
         (self.has_origin_as != 0).then_some(self.origin_as)
     }
 
-    /// The value of AS_PATH, of its message's octets; empty of what is withdrawn. So with the three
-    /// others.
+    /// The value of AS_PATH, of its message's octets; empty for what is withdrawn. Likewise the
+    /// three others.
     ///
     /// # Panics
     ///
@@ -159,7 +159,7 @@ impl NumberRow {
         self.number
     }
 
-    /// In which segment of the path it stands, from 0.
+    /// The index of its segment in the path, from 0.
     pub fn segment(&self) -> u16 {
         self.segment
     }

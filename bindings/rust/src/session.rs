@@ -10,9 +10,9 @@ pub enum Event {
     Start,
     /// The operator ends it.
     Stop,
-    /// A timer has run out.
+    /// A timer has expired.
     Expired(Timer),
-    /// The connection stands.
+    /// The connection is up.
     Connected,
     /// The connection, or the try for one, failed.
     Failed,
@@ -33,14 +33,14 @@ impl Event {
     }
 }
 
-/// Where a session stands (RFC 4271, section 8.2.2). It is printed by its name.
+/// The state of a session (RFC 4271, section 8.2.2). It is printed by its name.
 #[derive(Clone, Copy, Debug, PartialEq, Eq, PartialOrd, Ord, Hash)]
 pub enum State {
     /// There is no connection, and none is sought.
     Idle,
     /// A connection is sought.
     Connect,
-    /// The connection failed: another is sought when the Retry Timer has run out.
+    /// The connection failed: another is sought when the Retry Timer has expired.
     Active,
     /// The own OPEN is sent.
     OpenSent,
@@ -71,7 +71,7 @@ impl fmt::Display for State {
     }
 }
 
-/// What a peer said of itself in its OPEN (RFC 4271, section 4.2).
+/// The parameters of a peer's OPEN (RFC 4271, section 4.2).
 #[derive(Clone, Debug, PartialEq, Eq, Hash)]
 pub struct Peer {
     /// Its AS number: that of its capability for AS numbers of four octets, else My Autonomous
@@ -91,11 +91,11 @@ pub struct Peer {
     pub codes: Vec<u8>,
 }
 
-/// What a session heard.
+/// What a session received.
 #[derive(Clone, Debug)]
 pub struct Heard<'a> {
-    /// How many of the octets were taken, in octets: those of the message, or 19 of a header with a
-    /// fault. What the peer says next begins behind them.
+    /// The number of octets consumed: those of the message, or 19 of a header with a fault. The
+    /// peer's next message begins after them.
     pub taken: usize,
     /// What the message means in the session's state and context.
     pub outcome: Outcome<'a>,
@@ -106,11 +106,11 @@ pub struct Heard<'a> {
 /// One speaker's end of one connection (RFC 4271, section 8).
 ///
 /// It does no IO and knows no time: its host opens and closes the connection, keeps the timers,
-/// tells it what happens, lets it hear the octets that come, and does what it asks for. What doesn't
+/// passes events and received octets to it, and does what it asks for. What doesn't
 /// belong in its state does nothing.
 ///
 /// It is some 4.5 KB of memory, which is freed when it is dropped. Nothing is sent by that:
-/// [`Event::Stop`] comes before it. It goes from thread to thread, but isn't shared by them.
+/// [`Event::Stop`] comes before it. It moves between threads, but isn't shared by them.
 ///
 /// ```
 /// use ristulva::{Action, Config, Event, Session, State, Timer};
@@ -148,12 +148,12 @@ impl Session {
         }
     }
 
-    /// Where it stands.
+    /// Its state.
     pub fn state(&self) -> State {
         State::of(self.0.state())
     }
 
-    /// Tells it what happens. What doesn't belong in its state does nothing, nor does a timer that
+    /// Passes an event to it. What doesn't belong in its state does nothing, nor does a timer that
     /// it hasn't started.
     pub fn event(&mut self, event: Event) -> Actions<'static> {
         let mut message = [0; MESSAGE];
@@ -161,14 +161,14 @@ impl Session {
         Actions::of(&told, &message[..len], None)
     }
 
-    /// Lets it hear the message, or the header with a fault, that octets of the peer begin with.
-    /// What stands behind a message has no effect.
+    /// Passes it the message, or the header with a fault, that octets of the peer begin with.
+    /// Octets after a message are ignored.
     ///
     /// `None`, and nothing has changed, where the octets are less than a message, or where the
-    /// connection doesn't stand, so that octets have no meaning: in Idle, Connect and Active.
+    /// connection isn't up, so that octets have no meaning: in Idle, Connect and Active.
     ///
-    /// Its host drops what was [taken](Heard::taken) from the front of what it has received, and
-    /// calls it again, up to `None`:
+    /// Its host drops what was [consumed](Heard::taken) from the beginning of what it has received,
+    /// and calls it again, up to `None`:
     ///
     /// ```
     /// # use ristulva::{Action, Actions, Session};
@@ -197,7 +197,7 @@ impl Session {
         })
     }
 
-    /// What was heard by some octets, which `message` answers.
+    /// The outcome of some octets, which `message` answers.
     fn outcome<'a>(&self, heard: &raw::Heard, octets: &'a [u8], message: &[u8]) -> Outcome<'a> {
         let (code, subcode) = (heard.code, heard.subcode);
         let update = || Update::new(octets, self.context().unwrap_or_default(), heard.parts);
@@ -231,7 +231,7 @@ impl Session {
         self.0.context().map(|(_, hold)| hold)
     }
 
-    /// What the peer said of itself. `None` as [`context`](Session::context) is.
+    /// The parameters of the peer's OPEN. `None` as [`context`](Session::context) is.
     pub fn peer(&self) -> Option<Peer> {
         let (peer, mut codes) = (self.0.peer()?, [0; 256]);
         let count = self.0.codes(&mut codes)?;
@@ -253,13 +253,13 @@ impl Session {
         message[..len].to_vec()
     }
 
-    /// An UPDATE as the session sends it now: it is to be sent, and the Keepalive Timer, where there
-    /// is one, to be started anew. The session stays as it is.
+    /// An UPDATE as the session sends it now: it is to be sent, and the Keepalive Timer, where
+    /// there is one, to be restarted. The session is unchanged.
     ///
-    /// `body` is the body of that UPDATE in any valid spelling, as for [`encode`](crate::encode),
-    /// with AS numbers of four octets, whatever the session has, and one kind of routes: withdrawn,
+    /// `body` is the body of that UPDATE in any valid form, as for [`encode`](crate::encode),
+    /// with 4-octet AS numbers, whatever the session has, and one kind of routes: withdrawn,
     /// announced, or those of one of the multiprotocol attributes (RFC 7606, section 5.1). A peer
-    /// with AS numbers of two octets gets it as [`narrow`](crate::narrow) writes it.
+    /// with 2-octet AS numbers gets it as [`narrow`](crate::narrow) writes it.
     ///
     /// # Errors
     ///

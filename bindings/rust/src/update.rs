@@ -10,10 +10,10 @@ const MP_UNREACH: u8 = 15;
 const AS4_PATH: u8 = 17;
 const LARGE_COMMUNITY: u8 = 32;
 
-/// An UPDATE (RFC 4271, section 4.3). What it gives is read from its octets when it is asked for.
+/// An UPDATE (RFC 4271, section 4.3). What it gives is read from its octets on demand.
 ///
 /// Of attributes of one type the first decides (RFC 7606, section 3, item g), also one that is
-/// discarded, of which the [notes](Update::notes) tell.
+/// discarded and has a [note](Update::notes).
 #[derive(Clone, Copy, Debug, PartialEq, Eq)]
 pub struct Update<'a> {
     /// The message.
@@ -31,7 +31,7 @@ impl<'a> Update<'a> {
         }
     }
 
-    /// Its path attributes in their order, each as it lies there, discarded or not.
+    /// Its path attributes in their order, each as in the message, discarded or not.
     pub fn attributes(&self) -> Attributes<'a> {
         Attributes::new(self.octets, self.parts.attributes)
     }
@@ -55,7 +55,7 @@ impl<'a> Update<'a> {
         Prefixes::of_field(self.parts.nlri.of(self.octets))
     }
 
-    /// The prefixes of MP_REACH_NLRI (RFC 4760, section 3): none where it isn't there, or of a
+    /// The prefixes of MP_REACH_NLRI (RFC 4760, section 3): none where it is missing, or of a
     /// family that isn't in use.
     pub fn reached(&self) -> Prefixes<'a> {
         self.reach()
@@ -75,7 +75,7 @@ impl<'a> Update<'a> {
             .then(|| (hop.of(value), Prefixes::new(value, cursor)))
     }
 
-    /// The prefixes of MP_UNREACH_NLRI (RFC 4760, section 4): none where it isn't there, or of a
+    /// The prefixes of MP_UNREACH_NLRI (RFC 4760, section 4): none where it is missing, or of a
     /// family that isn't in use.
     pub fn unreached(&self) -> Prefixes<'a> {
         self.unreach().unwrap_or(Prefixes::none())
@@ -129,13 +129,13 @@ impl<'a> Update<'a> {
     }
 
     /// The values of COMMUNITIES (RFC 1997), each 65536 times an AS number and a number of that AS;
-    /// none where it isn't there.
+    /// none where it is missing.
     pub fn communities(&self) -> Numbers<'a> {
         Numbers::new(self.value(COMMUNITIES).unwrap_or_default(), 4)
     }
 
-    /// The values of LARGE_COMMUNITY, each three numbers, and each at its first place alone
-    /// (RFC 8092, section 3); none where it isn't there.
+    /// The values of LARGE_COMMUNITY, each three numbers, and each only where it occurs first
+    /// (RFC 8092, section 3); none where it is missing.
     pub fn large_communities(&self) -> impl Iterator<Item = [u32; 3]> + 'a {
         let value = self.value(LARGE_COMMUNITY).unwrap_or_default();
         let mut cursor = raw::LargeCommunities {

@@ -15,8 +15,8 @@ fn written(call: impl FnOnce(&mut [u8]) -> (u32, usize)) -> Result<Vec<u8>, Erro
 /// The message of an UPDATE in its one written form (RFC 4271, section 4.3): at most [`MESSAGE`]
 /// octets.
 ///
-/// `body` is the body of that UPDATE in any valid spelling, without the header: its attributes may
-/// stand in any order, with lengths of one octet or of two. It is judged as if it had been received
+/// `body` is the body of that UPDATE in any valid form, without the header: its attributes may
+/// be in any order, with lengths of one octet or of two. It is judged as if it had been received
 /// in this context.
 ///
 /// # Errors
@@ -26,11 +26,11 @@ pub fn encode(context: &Context, body: &[u8]) -> Result<Vec<u8>, Error> {
     written(|message| raw::encode(&context.said(), body, message))
 }
 
-/// The same for a speaker with AS numbers of two octets (RFC 6793, section 4.2.2): 23456 stands for
-/// each number that needs four, and AS4_PATH and AS4_AGGREGATOR beside AS_PATH and AGGREGATOR where
-/// one does.
+/// The same for a speaker with 2-octet AS numbers (RFC 6793, section 4.2.2): 23456 replaces
+/// each number that needs four octets, and AS4_PATH and AS4_AGGREGATOR are added to AS_PATH and
+/// AGGREGATOR where one does.
 ///
-/// `body` has AS numbers of four octets, whatever `as4` of the context says.
+/// `body` has 4-octet AS numbers, whatever `as4` of the context says.
 ///
 /// # Errors
 ///
@@ -40,12 +40,12 @@ pub fn narrow(context: &Context, body: &[u8]) -> Result<Vec<u8>, Error> {
     written(|message| raw::narrow(&context.said(), body, message))
 }
 
-/// The UPDATE of a session with AS numbers of two octets as speakers with four see it (RFC 6793,
-/// section 4.2.3): the path and the aggregator that AS4_PATH and AS4_AGGREGATOR give back stand in
-/// the place of all four.
+/// The UPDATE of a session with 2-octet AS numbers as 4-octet speakers see it (RFC 6793, section
+/// 4.2.3): the path and the aggregator that AS4_PATH and AS4_AGGREGATOR give replace all four
+/// attributes.
 ///
-/// `body` has AS numbers of two octets, whatever `as4` of the context says, and the message has them
-/// of four.
+/// `body` has 2-octet AS numbers, whatever `as4` of the context says, and the message has
+/// 4-octet ones.
 ///
 /// # Errors
 ///

@@ -6,7 +6,7 @@ use std::collections::BTreeMap;
 use std::fs;
 use std::path::{Path, PathBuf};
 
-/// A capture, with its session and the text that stands beside it.
+/// A capture, with its session and the text that is kept beside it.
 struct Capture {
     name: String,
     context: Context,
@@ -214,7 +214,7 @@ fn offsets() {
     }
 }
 
-/// Walks all that an UPDATE has. How many steps that took.
+/// Walks all that an UPDATE has. Answers the number of steps.
 fn walk(update: &Update<'_>) -> usize {
     let paths = update.as_path().into_iter().chain(update.as4_path());
     let numbers = paths.flatten().flat_map(|segment| segment.numbers());
@@ -227,8 +227,8 @@ fn walk(update: &Update<'_>) -> usize {
         + update.notes().count()
 }
 
-/// Whatever one octet is, what is there is judged, printed and walked, and no more of it than there
-/// is.
+/// Whatever one octet is, what it contains is judged, printed and walked, and no more of it than
+/// there is.
 #[test]
 fn changed_octets() {
     for mut it in captures() {

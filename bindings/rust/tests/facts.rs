@@ -64,7 +64,7 @@ fn facts() {
     assert_eq!(facts.large_communities, Some(&large[..]));
 }
 
-/// What isn't there, or is discarded, isn't given; nor is anything of what isn't accepted.
+/// What is missing, or discarded, isn't given; nor is anything of what isn't accepted.
 #[test]
 fn no_facts() {
     let rest = "400304c0000201 40050400000064 c0110602010000fde9";

@@ -1,4 +1,4 @@
-//! The fields of messages and the places of faults: values by hand.
+//! The fields of messages and the octets of faults: values by hand.
 
 use ristulva::{judge, Context, FieldKind, Group, Note, Why};
 

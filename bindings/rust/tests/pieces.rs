@@ -50,7 +50,7 @@ fn faults() -> [Vec<u8>; 4] {
     [message(4, &[0]), message(9, &[]), marker, withdrawn]
 }
 
-/// All that a message tells.
+/// All that a message has.
 type Told = (u64, Vec<u8>, String, String);
 
 fn told(message: &Message<'_>) -> Told {
@@ -59,7 +59,7 @@ fn told(message: &Message<'_>) -> Told {
     (message.offset(), octets, message.to_string(), outcome)
 }
 
-/// What an outcome tells beside its routes, which the lines tell.
+/// What an outcome has beside its routes, which the lines have.
 fn plain(outcome: &Outcome<'_>) -> (u8, u8, Vec<u8>, usize) {
     match outcome {
         Outcome::Open(open) => (1, 0, vec![], open.capabilities().count()),

@@ -111,7 +111,7 @@ fn values() {
     assert_eq!(large, [(19, [65000, 1, 2]), (19, [65000, 3, 4])]);
 }
 
-/// What was read before a message that is cut off, or that resets the session, is there.
+/// What was read before a message that is cut off, or that resets the session, is given.
 #[test]
 fn ends() {
     let header = [&[0xff; 15][..], &[0xfe, 0, 19, 4]].concat();

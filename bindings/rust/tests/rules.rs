@@ -159,7 +159,7 @@ fn faults_of_headers() {
         assert_eq!(it.outcome(), &reset(code, subcode, data));
         assert_eq!(it.octets(), &[]);
         assert_eq!(it.body(), &[]);
-        // What stands behind the header has no effect.
+        // Octets after the header have no effect.
         let more = [&octets[..], &message(4, &[])].concat();
         assert_eq!(judge(&PLAIN, &more), Some(it));
     }
@@ -196,7 +196,7 @@ fn opens() {
     assert_eq!(judge(&PLAIN, &hasty).unwrap().outcome(), &reset(2, 6, &[]));
 }
 
-/// RFC 5492, section 4: capabilities in one parameter, and each in one of its own behind an empty
+/// RFC 5492, section 4: capabilities in one parameter, and each in one of its own after an empty
 /// one. RFC 6793, section 4.1: 23456 stands for 131073.
 #[test]
 fn capabilities() {
@@ -237,7 +237,7 @@ fn notification() {
         data: b"\x03bye",
     };
     assert_eq!(it.outcome(), &wanted);
-    // The data are borrowed from what was handed in.
+    // The data are borrowed from what was passed in.
     let Outcome::Notification { data, .. } = it.into_outcome() else {
         unreachable!()
     };
@@ -283,7 +283,7 @@ fn parts_of_an_update() {
     let it = taken(&AS4, &octets);
     assert_eq!(told(it.withdrawn()), ["10.1.2.0/24"]);
     assert_eq!((it.withdrawn().len(), it.nlri().count()), (1, 2));
-    // Bits behind the length have no meaning.
+    // Bits past the length have no meaning.
     assert_eq!(told(it.nlri()), ["10.0.0.0/8", "172.16.0.0/12"]);
     assert_eq!(
         told(it.prefixes()),
@@ -352,7 +352,7 @@ fn communities() {
     assert_eq!(it.large_communities().collect::<Vec<_>>(), [[65000, 1, 2]]);
 }
 
-/// RFC 8092, section 3: a large community that stands there again is passed.
+/// RFC 8092, section 3: a repeated large community is skipped.
 #[test]
 fn large_communities_once() {
     let (one, two) = (
@@ -479,7 +479,7 @@ fn repeated() {
     assert_eq!(it.notes().next().unwrap().why.to_string(), "Repeated");
 }
 
-/// More notes than there is room for at first: each but the first is one, by its place.
+/// More notes than there is room for at first: each but the first is one, by its offset.
 #[test]
 fn many_notes() {
     let mut attributes = vec![origin(), path(), next_hop()];
@@ -498,7 +498,7 @@ fn many_notes() {
     }
 }
 
-/// The lines of a message with as many prefixes as there is room for.
+/// The lines of a message with as many prefixes as fit.
 #[test]
 fn long_lines() {
     let nlri = [8, 10].repeat(2000);
@@ -509,7 +509,7 @@ fn long_lines() {
     assert_eq!(lines.lines().count(), 2004);
 }
 
-/// ORIGIN behind AS_PATH, its length in two octets, is written in front of it in one.
+/// ORIGIN after AS_PATH, its length in two octets, is written before it in one.
 #[test]
 fn one_written_form() {
     let long = vec![0x50, 1, 0, 1, 0];
@@ -518,7 +518,7 @@ fn one_written_form() {
     assert_eq!(encode(&AS4, &simple()), Ok(message(2, &simple())));
 }
 
-/// 23456 stands for 200000, and AS4_PATH has it (RFC 6793, section 4.2.2).
+/// 23456 replaces 200000, and AS4_PATH has it (RFC 6793, section 4.2.2).
 #[test]
 fn narrowed() {
     let two = attribute(0x40, 2, &[2, 2, 0xfd, 0xe8, 0x5b, 0xa0]);
@@ -557,14 +557,14 @@ const ALL: Context = Context {
     ..AS4
 };
 
-/// What comes of octets, the first of their stream.
+/// The cleaned form of octets, the first of their stream.
 fn cleaned(octets: &[u8], types: &[u8]) -> Cleaned {
     let message = judge(&ALL, octets).expect("a message");
     message.clean(true, types).expect("memory")
 }
 
-/// What is handed on of octets is wanted, without so many attributes that are discarded, so many that
-/// are left out, and so many capabilities; wanted is handed on as it is.
+/// What is passed on of octets is wanted, with these numbers of attributes that are discarded and
+/// left out, and of capabilities left out; wanted is passed on unchanged.
 fn becomes(octets: &[u8], types: &[u8], wanted: &[u8], counts: [usize; 3]) {
     let handed_on = |[discarded, left_out, capabilities]: [usize; 3]| {
         Cleaned::HandedOn(HandedOn {
@@ -597,8 +597,8 @@ fn cleaned_updates() {
     becomes(&message(3, &[6, 2]), &[], &message(3, &[6, 2]), [0; 3]);
 }
 
-/// Of two types that aren't recognised each is left out by its type, and ORIGIN isn't. What is left of
-/// attributes alone is no End-of-RIB.
+/// Of two types that aren't recognised each is left out by its type, and ORIGIN isn't. What remains
+/// of attributes alone isn't an End-of-RIB.
 #[test]
 fn cleaned_of_types() {
     let (some, other) = (attribute(0xc0, 20, &[1]), attribute(0xc0, 30, &[2]));
@@ -622,7 +622,7 @@ fn cleaned_of_types() {
     becomes(&end_of_rib, &[20], &end_of_rib, [0; 3]);
 }
 
-/// IPv4 unicast, route refresh, AS 131073 and IPv4 unicast: two go on, in one parameter.
+/// IPv4 unicast, route refresh, AS 131073 and IPv4 unicast: two are passed on, in one parameter.
 #[test]
 fn cleaned_opens() {
     let open = |capabilities: &[&[u8]]| {
@@ -652,7 +652,7 @@ fn cleaned_streams_end() {
     assert_eq!(End::Reset { code, subcode }.to_string(), "reset 1/2");
 }
 
-/// RFC 5952: hexadecimal groups alone, also where an IPv6 address holds an IPv4 one.
+/// RFC 5952: only hexadecimal groups, also where an IPv6 address holds an IPv4 one.
 #[test]
 fn addresses_as_they_are_shown() {
     for (address, wanted) in [

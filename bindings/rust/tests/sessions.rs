@@ -48,16 +48,16 @@ fn remote() -> Config {
     Config::new(65002, 65001, [192, 0, 2, 2].into())
 }
 
-/// A session, and what came for it.
+/// A session, and what arrived for it.
 struct Side {
     session: Session,
     held: Vec<u8>,
 }
 
-/// What a side heard, as its words tell, and what it did.
+/// What a side received, as text, and what it did.
 type Told = (String, Vec<Action<'static>>);
 
-/// What is done of what is asked for: what is sent comes to the peer, and updates are left out.
+/// Carries out actions: what is sent is passed to the peer. Updates are left out.
 fn done(actions: Actions<'_>, peer: &mut Side) -> Vec<Action<'static>> {
     actions
         .map(|action| match action {
@@ -89,7 +89,7 @@ impl Side {
         done(self.session.event(event), peer)
     }
 
-    /// Hears the first message that came, which isn't an UPDATE that is accepted.
+    /// Receives the first message that came, which isn't an UPDATE that is accepted.
     fn hears(&mut self, peer: &mut Side) -> Option<Told> {
         let heard = self.session.hear(&self.held)?;
         let told = match heard.outcome {
@@ -174,7 +174,7 @@ fn agreed() {
     assert_eq!(peer.codes, [1, 65]);
 }
 
-/// A session with a peer of the same AS, for IPv6 alone, with AS numbers of two octets.
+/// A session with a peer of the same AS, for IPv6 alone, with 2-octet AS numbers.
 #[test]
 fn agreed_inside_of_an_as() {
     let inside = |identifier: u8| Config {
@@ -262,7 +262,7 @@ fn routes_in_two_octets() {
     assert_eq!(numbers(update.as4_path()), [70000, 65001]);
 }
 
-/// RFC 7606, section 3, item d: a mandatory attribute is missing. The session stands.
+/// RFC 7606, section 3, item d: a mandatory attribute is missing. The session stays up.
 #[test]
 fn withdrawal() {
     let (_, mut other) = established(&local(), &remote());
@@ -359,7 +359,7 @@ fn stopped() {
     }
 }
 
-/// Before it stands a connection is sought again when the Retry Timer has run out.
+/// Until it is up, a connection is sought again when the Retry Timer has run out.
 #[test]
 fn sought_again() {
     let (mut one, mut other) = (Side::new(&local()), Side::new(&remote()));
@@ -388,7 +388,7 @@ fn expired_and_failed() {
     assert_eq!(done, left(&[])[1..]);
 }
 
-/// Less than a message changes nothing, and what stands behind one has no effect.
+/// Less than a message changes nothing, and octets after one have no effect.
 #[test]
 fn pieces() {
     let (_, mut other) = established(&local(), &remote());
@@ -411,8 +411,8 @@ fn pieces() {
     ));
 }
 
-/// Whatever one octet is, a session that stands hears what `judge` finds; but an OPEN doesn't belong
-/// there (RFC 6608, section 4). It stands on exactly where no NOTIFICATION came or is sent.
+/// Whatever one octet is, a session that is up receives what `judge` finds; but an OPEN doesn't belong
+/// there (RFC 6608, section 4). It stays up exactly where no NOTIFICATION came or is sent.
 #[test]
 fn changed_octets() {
     for octets in [
@@ -432,7 +432,7 @@ fn changed_octets() {
     }
 }
 
-/// What a session in Established hears of octets, and what `judge` says of them.
+/// Compares what a session in Established receives with what `judge` finds.
 fn compare(octets: &[u8]) {
     let (_, mut other) = established(&local(), &remote());
     let context = other.session.context().expect("it stands");
@@ -505,7 +505,7 @@ fn refused() {
     assert_eq!(send(&ANNOUNCEMENT), None);
 }
 
-/// In all states but Established no body is looked at.
+/// In all states but Established no body is judged.
 #[test]
 fn state_first() {
     let (mut one, mut other) = connected(&local(), &remote());

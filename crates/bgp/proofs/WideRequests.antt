@@ -1,4 +1,4 @@
--- What is narrowed has AS numbers of four octets.
+-- What is narrowed has 4-octet AS numbers.
 use Rattle.std.proofs.Common.{◌≡◌, Bool, true, false, cond, List, codes, Option, None, Some, option_map, refl, ap, subst}
 use Rattle.std.specs.Str.{bytes_eq}
 use Rattle.clap.specs.Words.{Row, Text, first_of, subcommand_of}

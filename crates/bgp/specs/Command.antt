@@ -1,4 +1,4 @@
--- What the program does with its words.
+-- What the program does with its command line.
 use Rattle.std.specs.Prelude.{◌≡◌, ◌≢◌, ◌⊎◌, ℕ, Bool, true, false, List, [], Option, Result, Err, if◌then◌else◌}
 use Rattle.std.specs.Io.KnownBytes.{Keeps}
 use Rattle.clap.specs.Words.{IsAmong, Text}
@@ -28,17 +28,17 @@ pub record RunsScript (io : Io) (outcome : Result Tally ToolFault) : Type 0 wher
   pub unread : Keeps io.reader_old io.reader_new
   pub ran : RunsFile io.writer_old io.writer_new outcome
 
--- and what came of each move was written before the report
+-- and the trace of its moves was written before the report
 pub record TracesScript (io : Io) (outcome : Result Tally ToolFault) : Type 0 where
   pub unread : Keeps io.reader_old io.reader_new
   pub ran : TracesFile io.writer_old io.writer_new outcome
 
--- the file of the other direction had some octets, and the engine ran by these
+-- the file of the other direction was read, and the engine ran by its octets
 pub record RanBy (reports : List ℕ → Reports) (hex : Bool) (io : Io) (outcome : Result Tally ToolFault) : Type 0 where
   pub theirs : List ℕ
   pub answers : engine.Answers (reports theirs) hex io outcome
 
--- memory ran out, or that file couldn't be read: nothing was read of the reader, and nothing written
+-- an allocation failed, or that file couldn't be read: nothing was read of the reader, and nothing written
 pub record HasNoFile (io : Io) (outcome : Result Tally ToolFault) : Type 0 where
   pub fault : ToolFault
   pub fails : outcome ≡ Err fault
@@ -87,7 +87,7 @@ pub record HasRun (request : Request) (io : Io) (answer : ℕ) : Type 0 where
   pub ran : Runs request io outcome
   pub is_status : answer ≡ status_of outcome
 
--- what is narrowed has AS numbers of four octets
+-- what is narrowed has 4-octet AS numbers
 abbrev pub IsWide : Request → Type 0
 IsWide (Narrow (Flags ctx)) = ctx.as4 ≡ true
 IsWide _ = Unit {0}
@@ -100,7 +100,7 @@ pub record RunsEngine (words : List Text) (io : Io) (answer : ℕ) : Type 0 wher
   pub without_fault : faults_of words ≡ []
   pub has_run : HasRun request io answer
 
--- 3 where memory ran out; 0 where help was asked for, and 4 where it couldn't be written; 2 else
+-- 3 where an allocation failed; 0 where help was requested, and 4 where it couldn't be written; 2 else
 pub record IsExplained (kind : ErrorKind) (answer : ℕ) : Type 0 where
   pub memory : kind ≡ error.OutOfMemory → answer ≡ 3
   pub help : (kind ≡ error.DisplayHelp) ⊎ (kind ≡ error.DisplayVersion) → (answer ≡ 0) ⊎ (answer ≡ 4)
@@ -110,7 +110,7 @@ pub record IsExplained (kind : ErrorKind) (answer : ℕ) : Type 0 where
 abbrev pub IsQuiet : ErrorKind → Option (List ℕ) → Option (List ℕ) → Type 0
 IsQuiet kind writer_old writer_new = kind ≢ error.DisplayHelp → kind ≢ error.DisplayVersion → Keeps writer_old writer_new
 
--- Nothing was read: the words meet an error, or memory ran out.
+-- Nothing was read: the words have an error, or an allocation failed.
 pub record Explains (words : List Text) (io : Io) (answer : ℕ) : Type 0 where
   pub unread : Keeps io.reader_old io.reader_new
   pub kind : ErrorKind

@@ -1,2 +1,2 @@
--- What the program does with its words.
+-- What the program does with its command line.
 pub mod Command

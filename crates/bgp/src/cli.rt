@@ -24,15 +24,15 @@ use std::net::Net;
 /// The status of a fault of the command line.
 const MISUSE: u8 = 2;
 
-/// The octets of the longest message: a file's first one is all that is read of the other direction.
+/// The length of the longest message: only the first message of the other direction's file is read.
 const MESSAGE_MAX: u64 = 4096;
 
-// Tells a fault. A write that fails changes nothing.
+// Prints a fault. A failed write has no effect.
 fn tell<E: Write>(errors: &mut E, fault: ToolFault) {
     let _ = write!(errors, "bgp: {fault}\n");
 }
 
-// Prints the text of a command line that asks for nothing that can be done: help, or a fault.
+// Prints help, or the fault of a command line that can't be carried out.
 fn explain<W: Write, E: Write>(error: &Error, output: &mut W, errors: &mut E) -> u8
     ensures answer { IsExplained (kind_of error.now) result }
     ensures quiet { IsQuiet (kind_of error.now) (W.contents output.old) (W.contents output.new) }
@@ -231,7 +231,7 @@ fn run<H: Files + Net, R: Read, W: Write>(
     }
 }
 
-// Runs the engine of a request, tells its fault and what may be wrong with the input, and gives its status.
+// Runs the engine of a request, prints its fault and what may be wrong with the input, and gives its status.
 fn answer<H: Files + Net, R: Read + Recorded, W: Write, E: Write>(
     rt: &H,
     alloc: Global,
@@ -251,10 +251,10 @@ fn answer<H: Files + Net, R: Read + Recorded, W: Write, E: Write>(
     status(&outcome)
 }
 
-/// The whole program: does what the words ask, which stand without the program's name, and answers its status. `rt` opens the file of a
-/// script or of the other direction, and the sockets of a wire over TCP.
+/// The whole program: does what the words of the command line ask, without the program's name, and answers its status.
+/// `rt` opens the file of a script or of the other direction, and the sockets of a wire over TCP.
 ///
-/// A failed write to `errors` changes nothing.
+/// A failed write to `errors` has no effect.
 pub fn command<H: Files + Net, R: Read + Recorded, W: Write, E: Write>(
     rt: &H,
     alloc: Global,

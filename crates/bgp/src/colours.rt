@@ -23,7 +23,7 @@ enum Choice {
     Never,
 }
 
-/// What a word of the command line says of colours, where it does.
+/// The choice of colours in a word of the command line, where it has one.
 fn choice_of(word: &str) -> Option<Choice> {
     match word {
         "--color=auto" => Some(Choice::Terminal),
@@ -33,7 +33,7 @@ fn choice_of(word: &str) -> Option<Choice> {
     }
 }
 
-/// Whether a word of the command line is about colours alone.
+/// Whether a word of the command line is only about colours.
 pub(crate) fn is_choice(word: &str) -> bool {
     choice_of(word).is_some()
 }
@@ -92,7 +92,7 @@ fn heading_colour(line: &[u8]) -> &'static [u8] {
     }
 }
 
-/// The colour of a line; none of most.
+/// The colour of a line; most have none.
 fn colour_of(line: &[u8]) -> &'static [u8] {
     if line.starts_with(b"  !") {
         BOLD_RED
@@ -107,19 +107,19 @@ fn colour_of(line: &[u8]) -> &'static [u8] {
     }
 }
 
-/// A writer that colours lines, where that is asked for.
+/// A writer that colours lines, where that is requested.
 #[derive(Drop)]
 pub(crate) struct Coloured<W> {
     output: W,
     is_on: bool,
-    /// A line whose end isn't there yet.
+    /// An incomplete line.
     line: Vec<u8>,
     /// Lines that aren't written yet.
     text: Vec<u8>,
 }
 
 impl<W: Write> Coloured<W> {
-    /// Nothing so far.
+    /// An empty one.
     pub(crate) fn new(rt: &HostRuntime, output: W, is_on: bool) -> Coloured<W> {
         Coloured {
             output,
@@ -129,7 +129,7 @@ impl<W: Write> Coloured<W> {
         }
     }
 
-    /// Puts the line that has ended among those to be written.
+    /// Appends the finished line to those to be written.
     fn end_line(&mut self) -> io::Result<()> {
         let colour = colour_of(&self.line);
         self.text.extend_from_slice(colour)?;
@@ -142,7 +142,7 @@ impl<W: Write> Coloured<W> {
         Ok(())
     }
 
-    /// Takes text, and puts the lines that end in it among those to be written.
+    /// Consumes text, and appends the lines that end in it to those to be written.
     fn keep(&mut self, text: &[u8]) -> io::Result<()> {
         for octet in text {
             if *octet == b'\n' {

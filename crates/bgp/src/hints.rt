@@ -1,4 +1,4 @@
-//! Hints: what a line on standard error tells of input that isn't what it was taken for, behind the fault or alone.
+//! Hints: a line on standard error about input that isn't in the expected format, after the fault or alone.
 
 use crate::record::Record;
 use bgp_engine::{Tally, ToolFault, from_hex};
@@ -10,7 +10,7 @@ use std::alloc::Global;
 use std::fs::{self, Files};
 use std::io::Write;
 
-/// The octets of the longest message.
+/// The length of the longest message.
 const MESSAGE_MAX: u64 = 4096;
 
 /// A reader that has kept what hints are made of.
@@ -56,7 +56,7 @@ fn has_hex(request: &Request) -> bool {
     }
 }
 
-// What tells the context of a session.
+// What determines the context of a session.
 fn session_of(request: &Request) -> Option<Session> {
     match request {
         Request::Show { session, .. }
@@ -68,7 +68,7 @@ fn session_of(request: &Request) -> Option<Session> {
     }
 }
 
-// Whether the stream begins with a header that has a fault.
+// Whether the stream begins with a faulty header.
 fn is_no_header(request: &Request, octets: &[u8]) -> bool {
     match request {
         Request::FromHex | Request::Loop { .. } => false,
@@ -76,7 +76,7 @@ fn is_no_header(request: &Request, octets: &[u8]) -> bool {
     }
 }
 
-// Tells what the input looks like, and what reads that, behind what was told of it.
+// Prints what the input looks like, and what reads that, after what was printed of it.
 fn tell_look<E: Write>(errors: &mut E, request: &Request, look: Look) {
     let command = command_of(request);
     let _ = write!(errors, "the input looks like ");
@@ -120,7 +120,7 @@ fn tell_look<E: Write>(errors: &mut E, request: &Request, look: Look) {
     };
 }
 
-// Tells what input looks like whose first header has a fault: of text that is read as digits, by an offset before each line.
+// Prints what input with a faulty first header looks like: for text that is read as digits, by an offset before each line.
 fn tell_no_header<E: Write>(errors: &mut E, request: &Request, first: &[u8]) {
     let found = if is_of_text(request) {
         dump_of(first)
@@ -133,7 +133,7 @@ fn tell_no_header<E: Write>(errors: &mut E, request: &Request, first: &[u8]) {
     }
 }
 
-// Tells what makes digits alone of text that has a character among them.
+// Prints what a bad character is, and how to remove it.
 fn tell_character<E: Write>(errors: &mut E, command: &str, before: Option<u8>, character: u8) {
     let shown = char::from(character);
     let _ = match character {
@@ -164,7 +164,7 @@ fn words_of(request: &Request) -> &'static str {
     }
 }
 
-// Tells what stands where a character is bad, or what the whole input looks like, and what reads it.
+// Prints what is at a bad character, or what the whole input looks like, and what reads it.
 fn tell_wrong<E: Write>(
     errors: &mut E,
     request: &Request,
@@ -191,7 +191,7 @@ fn tell_wrong<E: Write>(
     }
 }
 
-// Tells where a bad character stands, and what is wrong there.
+// Prints where a bad character is, and what is wrong there.
 fn tell_bad_hex<E: Write>(errors: &mut E, request: &Request, record: &Record, at: u64) {
     if let Some((spot, before, character)) = record.spot(at) {
         let line = spot.line;
@@ -201,7 +201,7 @@ fn tell_bad_hex<E: Write>(errors: &mut E, request: &Request, record: &Record, at
     }
 }
 
-// Tells why a file couldn't be opened. One that may wait for a writer isn't opened again.
+// Prints why a file couldn't be opened. One whose opening may block for a writer isn't opened again.
 fn tell_file<H: Files, E: Write>(rt: &H, errors: &mut E, file: &str) {
     let name = if file.is_empty() { "''" } else { file };
     match fs::metadata(rt, file) {
@@ -220,7 +220,7 @@ fn tell_file<H: Files, E: Write>(rt: &H, errors: &mut E, file: &str) {
     }
 }
 
-// The octets that were read first: of hexadecimal text what its pairs spell.
+// The octets that were read first: of hexadecimal text those of its pairs.
 fn octets_of(alloc: Global, is_text: bool, first: &[u8]) -> Vec<u8> {
     let mut octets = Vec::new(alloc);
     if is_text {
@@ -232,7 +232,7 @@ fn octets_of(alloc: Global, is_text: bool, first: &[u8]) -> Vec<u8> {
     octets
 }
 
-// What the speaker says of itself, where the first message is an OPEN that is accepted.
+// The parameters of the first OPEN, where the first message is one that is accepted.
 fn speaker_of(octets: &[u8]) -> Option<Peer> {
     match front(octets) {
         Step::Frame(frame) => speaker_in(frame),
@@ -250,7 +250,7 @@ fn speaker_in(frame: Frame<'_>) -> Option<Peer> {
     }
 }
 
-// Tells what the first OPEN offers and the flags don't say: without them its routes are read as others, or left out.
+// Prints what the first OPEN offers and the flags don't say: without those its routes are misread, or left out.
 fn tell_offer<E: Write>(errors: &mut E, ctx: &Context, peer: &Peer) {
     let unsaid = left_unsaid(ctx, peer);
     let names = match (unsaid.as4, unsaid.ip4, unsaid.ip6) {
@@ -269,7 +269,7 @@ fn tell_offer<E: Write>(errors: &mut E, ctx: &Context, peer: &Peer) {
     );
 }
 
-// Tells that a file begins with the OPEN of the stream itself.
+// Prints that a file begins with the stream's own OPEN.
 fn tell_same<H: Files, E: Write>(rt: &H, alloc: Global, errors: &mut E, file: &str, octets: &[u8]) {
     match fs::metadata(rt, file) {
         Ok(found) if found.is_file() => {}
@@ -289,7 +289,7 @@ fn tell_same<H: Files, E: Write>(rt: &H, alloc: Global, errors: &mut E, file: &s
     }
 }
 
-// Tells what is odd about the OPENs of a session.
+// Prints what is odd about the OPENs of a session.
 fn tell_opens<H: Files, E: Write>(
     rt: &H,
     alloc: Global,
@@ -316,7 +316,7 @@ fn has_file(request: &Request) -> bool {
     }
 }
 
-// Tells what may be wrong with a stream, by its first octets.
+// Prints what may be wrong with a stream, by its first octets.
 fn tell_stream<H: Files, E: Write>(
     rt: &H,
     alloc: Global,
@@ -331,7 +331,8 @@ fn tell_stream<H: Files, E: Write>(
     tell_opens(rt, alloc, errors, asked, &octets);
 }
 
-/// Tells what may be wrong with the input, where something is, by what was read of it and what came of that. A write that fails changes nothing.
+/// Prints what may be wrong with the input, where something is, by what was read of it and the outcome. A failed write
+/// has no effect.
 pub(crate) fn hint<H: Files, E: Write>(
     rt: &H,
     alloc: Global,

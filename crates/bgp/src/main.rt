@@ -1,4 +1,5 @@
-//! The program `bgp`: hands its words and its three streams to its command line, and ends with the status of the answer.
+//! The program `bgp`: passes its words and its three streams to its command line, and ends with the status of the
+//! answer.
 #![tactic(auto)]
 
 mod cli;
@@ -14,12 +15,12 @@ use std::alloc::AllocError;
 use std::process::ExitCode;
 use std::{env, io};
 
-// The words behind the program's name.
+// The words after the program's name.
 fn words(rt: &HostRuntime) -> io::Result<Vec<String>> {
     Ok(env::args(rt)?.skip(1).collect(rt.alloc())?)
 }
 
-// Runs the program, where there is memory to hold its words by reference.
+// Runs the program, where its words could be allocated.
 fn run(rt: &HostRuntime, words: &[String]) -> Result<u8, AllocError> {
     let alloc = rt.alloc();
     let is_on = is_coloured(rt, words);

@@ -1,20 +1,20 @@
-//! Progress of long work, and a reader that tells it.
+//! Progress of long work, and a reader that prints it.
 
 use crate::hints::Recorded;
 use crate::record::Record;
 use std::io::{self, IsTerminal, Read};
 use std::time::Instant;
 
-/// After how many seconds progress is told again.
+/// The seconds between two reports of progress.
 const PAUSE: u64 = 1;
 
-/// Counts octets, and tells each second how many there were, and how many of them a second. It tells it on standard error where that is a
-/// terminal and standard output isn't, so that it doesn't stand between lines of output; and nothing else.
+/// Counts octets, and prints each second their number and rate. It prints on standard error, and only where that is a
+/// terminal and standard output isn't, so that it doesn't mix with lines of output.
 #[derive(Drop)]
 struct Meter<'a> {
     rt: &'a HostRuntime,
     octets: u64,
-    // When it began, and when it told something: none where it tells nothing.
+    // When it began, and when it last printed: none where it prints nothing.
     times: Option<(Instant, Instant)>,
 }
 
@@ -32,7 +32,7 @@ impl<'a> Meter<'a> {
         }
     }
 
-    // Counts octets, and tells how many there are, where that wasn't told for a while. That it can't be told has no effect.
+    // Counts octets, and prints their number, where that wasn't printed for a while. A failed write has no effect.
     fn count(&mut self, more: usize) {
         self.octets = self.octets.saturating_add(more as u64);
         let Some((began, told)) = self.times else {
@@ -51,18 +51,19 @@ impl<'a> Meter<'a> {
     }
 }
 
-/// A reader that tells how far it is, and keeps what hints are made of.
+/// A reader that prints its progress, and keeps what hints are made of.
 #[derive(Drop)]
 pub(crate) struct Watched<'a, R> {
     input: R,
     meter: Meter<'a>,
     record: Record,
-    /// What is told before the first read.
+    /// What is printed before the first read.
     notice: Option<&'static str>,
 }
 
 impl<'a, R: Read + IsTerminal> Watched<'a, R> {
-    /// A reader of these octets, or of text. Before it waits for a terminal it tells so, where standard error is one too.
+    /// A reader of these octets, or of text. Before it waits for a terminal it prints that, where standard error is one
+    /// too.
     pub(crate) fn new(rt: &'a HostRuntime, input: R, is_text: bool) -> Watched<'a, R> {
         let notice = if !input.is_terminal() || !rt.stderr().is_terminal() {
             None

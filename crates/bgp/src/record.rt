@@ -1,26 +1,26 @@
-//! What was read of the input, as far as hints are made of it.
+//! What was read of the input, as far as hints need it.
 
 use bgp_words::{Spot, spot_behind};
 use std::alloc::Global;
 
-/// How many octets are kept from the front.
+/// How many first octets are kept.
 const FRONT: usize = 4096;
 
-/// What was read of the input: its first octets, and of text the block that came last. A fault is told where it is found, so nothing else is looked at
-/// again.
+/// What was read of the input: its first octets, and of text the last block. A fault is reported where it is found, so
+/// nothing else is needed again.
 #[derive(Drop)]
 pub(crate) struct Record {
     first: Vec<u8>,
     is_text: bool,
     last: Vec<u8>,
-    /// How many characters came before that block.
+    /// The number of characters before that block.
     before: u64,
-    /// Where it begins.
+    /// The position where it begins.
     spot: Spot,
 }
 
 impl Record {
-    /// Nothing so far, of octets or of text.
+    /// An empty record, of octets or of text.
     pub(crate) fn new(alloc: Global, is_text: bool) -> Record {
         Record {
             first: Vec::new(alloc),
@@ -31,7 +31,7 @@ impl Record {
         }
     }
 
-    /// Keeps what was read next. Without memory there are no hints, and else it has no effect.
+    /// Keeps what was read next. A failed allocation loses the hints, and has no other effect.
     pub(crate) fn keep(&mut self, octets: &[u8]) {
         let room = FRONT - self.first.len().min(FRONT);
         let (front, _) = octets.split_at(octets.len().min(room));
@@ -49,7 +49,7 @@ impl Record {
         &self.first
     }
 
-    /// Where the character at an offset stands, with the character before it and itself: none where it isn't held.
+    /// The position of the character at an offset, the character before it, and itself: none where it isn't held.
     pub(crate) fn spot(&self, at: u64) -> Option<(Spot, Option<u8>, u8)> {
         let inside = usize::try_from(at.checked_sub(self.before)?).ok()?;
         let character = *self.last.get(inside)?;

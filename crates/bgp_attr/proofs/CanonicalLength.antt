@@ -1,4 +1,4 @@
--- How long the written form of an attribute is.
+-- The length of an attribute's written form.
 use Rattle.bgp_wire.proofs.Std.{◌≡◌, ℕ, ◌+◌, Bool, true, false, cond, ltb, List, [], ◌∷◌, length, refl, ap, ◌∙◌, arith, w16, to_be_bytes}
 use Rattle.std.proofs.lemmas.List.{length-append}
 use Rattle.bgp_open.specs.declared.context.Context.{Context}
@@ -23,6 +23,6 @@ length-made class partial kind v =
 pub length-canonical : (ctx : Context) (a : Attr) → length (canonical ctx a) ≡ (2 + cond (ltb 255 (length (value_octets ctx a))) 2 1) + length (value_octets ctx a)
 length-canonical ctx a = length-made (class_of a) (partial_of a) (type_of a) (value_octets ctx a)
 
--- a family, next hops, an octet that is ignored, and prefixes
+-- a family, next hops, a reserved octet, and prefixes
 pub reach_added : (afi : ℕ) (hop : List ℕ) (routes : List PrefixValue) → length (reach_row afi hop routes) ≡ 5 + length hop + length (run_octets routes)
 reach_added afi hop routes = omega (arith, length-append hop (0 ∷ run_octets routes))

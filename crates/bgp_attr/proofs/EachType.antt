@@ -1,4 +1,4 @@
--- What is owed of each type, type by type: its tests refuse, what they let pass is spelled by its octets and by no others, can be written and is read back.
+-- What is proved type by type: its tests refuse, what passes them is spelled by its octets and by no others, can be written and is read back.
 use Rattle.bgp_wire.proofs.Std.{◌≡◌, ℕ, Bool, true, false, ◌&&◌, List, ◌∷◌, Option, Some, None, refl, sym, ap, subst, ◌∙◌, ◌≤◌, not, eqb, ◌++◌, length, arith, ◌<◌, ltb, suc, lit<, list_any, eqb-false, ltb-false, not-false, not_from_true, or_parts}
 use Rattle.std.proofs.lemmas.Bool.{true≢false}
 use Rattle.bgp_numbers.specs.declared.afi.TheConstants.{IPV4, IPV6}
@@ -34,7 +34,7 @@ use Rattle.bgp_attr.proofs.ReadBack.{this-kept, kept-four, four-passes, kept-ori
 use Rattle.bgp_attr.proofs.Rewriting.{Rewritten, origin-rewritten, as_path-rewritten, next_hop-rewritten, four-rewritten, atomic-rewritten, aggregator-rewritten, as4_aggregator-rewritten, communities-rewritten, large-rewritten, as4_path-rewritten, other-rewritten, mp_reach-rewritten, mp_unreach-rewritten, rewritten-fits}
 use Rattle.bgp_attr.proofs.WrittenOctets.{AreOctets-four, AreOctets-row, triples-octets, path-octets, run-octets, reach-octets, unreach-octets, link-octets, aggregator-octets, code-octet, made-octets}
 
--- ---- its tests refuse, and so what is kept is the value that they let pass
+-- ---- a type's tests refuse, and so what is kept is the value that passes them
 
 module _ (ctx : Context) (has_nlri : Bool) (t : TlvValue) where
   aggregator_refuses : (wide : Bool) → AllRefuse (aggregator_tests wide t)
@@ -59,11 +59,11 @@ module _ (ctx : Context) (has_nlri : Bool) (t : TlvValue) where
       & tt)
       (λ other. test _ _ refl no_more)
 
-  -- what holds of all that is kept and of each refusal holds of the judgement
+  -- what holds of every value and of each refusal holds of the judgement
   pub by_answer : (P : Judged → Type 0) → ((a : Attr) → P (judged.Keep a)) → ((j : Judged) → IsRefusal j → P j) → P (judgement ctx has_nlri t)
   by_answer P kept refused = let type : AttributeType = type_row ctx has_nlri t in decided_by P type.value (kept type.value) refused type.tests tests_refuse.each
 
-  -- the first of its type isn't repeated
+  -- the first attribute of its type isn't repeated
   pub not_repeated : judgement ctx has_nlri t ≡ judged.Discard why.Repeated → ⊥
   not_repeated = by_answer (λ j. j ≡ judged.Discard why.Repeated → ⊥) (λ a e. absurd cc) (λ j refused e. subst IsRefusal e refused)
 
@@ -73,7 +73,7 @@ module _ (ctx : Context) (has_nlri : Bool) (t : TlvValue) where
   pub kept-value : (a : Attr) → judgement ctx has_nlri t ≡ judged.Keep a → (type_row ctx has_nlri t).value ≡ a
   kept-value a e = let type : AttributeType = type_row ctx has_nlri t in (decided-kept type.tests type.value a tests_refuse.each e).1
 
-  -- and it is of the type that its octets name
+  -- and its type is the one in its octets
   pub kept-type : (a : Attr) → judgement ctx has_nlri t ≡ judged.Keep a → type_of a ≡ t.kind
   kept-type a keeps =
       ap type_of (sym (kept-value a keeps))
@@ -86,7 +86,7 @@ module _ (ctx : Context) (has_nlri : Bool) (t : TlvValue) where
 
 -- ---- what is kept is spelled, and nothing else is
 
--- what is owed of what is kept: it is spelled, and can be written again
+-- what is proved of a value that is kept: it is spelled, and can be written again
 abbrev Fulfils : Context → Bool → TlvValue → Attr → Type 0
 Fulfils ctx has_nlri t a = Spells ctx t a × (t.kind < 256 → Rewritten ctx has_nlri t a)
 
@@ -116,7 +116,7 @@ module _ (ctx : Context) (has_nlri : Bool) (t : TlvValue) where
   value-at : (kind : ℕ) → t.kind ≡ kind → (type_row ctx has_nlri t).value ≡ (row_at ctx has_nlri t kind).value
   value-at kind e = ap (λ (type : AttributeType). type.value) (row-at ctx has_nlri t kind e)
 
-  -- what is spelled is the value
+  -- a value that is spelled is the one that is kept
   pub spells-value : (b : Attr) → Spells ctx t b → (type_row ctx has_nlri t).value ≡ b
   spells-value (attr.Origin o) s = value-at attribute.ORIGIN (s.of_type).kind_is ∙ ap (λ (x : Origin). attr.Origin x) (origin-only t o t.value s.value)
   spells-value (attr.AsPath p) s = value-at attribute.AS_PATH (s.of_type).kind_is ∙ ap (λ (x : AsPath). attr.AsPath x) (sym (path-only (as_path_form ctx) p t.value s.path))
@@ -157,7 +157,7 @@ Placed ctx has_nlri (attr.NextHop addr) = has_nlri ≡ true
 Placed ctx has_nlri (attr.LocalPref n) = ctx.internal ≡ true
 Placed ctx has_nlri _ = Unit {0}
 
--- an attribute that is placed so belongs where the session has a place for it
+-- an attribute so placed belongs in the message unless the session has no use for it
 pub belongs : (ctx : Context) (has_nlri : Bool) (a : Attr) → Placed ctx has_nlri a → is_out_of_place ctx a ≡ false → Belongs ctx has_nlri a
 belongs ctx has_nlri (attr.NextHop addr) placed place = placed
 belongs ctx has_nlri (attr.LocalPref n) placed place = placed
@@ -167,7 +167,7 @@ belongs ctx has_nlri (attr.MpUnreach (unreach.Ip4 routes)) placed place = not-fa
 belongs ctx has_nlri (attr.MpUnreach (unreach.Ip6 routes)) placed place = not-false ctx.ip6 place
 belongs ctx has_nlri _ placed place = tt
 
--- and it belongs nowhere else
+-- and it belongs in no other
 pub has-place : (ctx : Context) (has_nlri : Bool) (a : Attr) → Belongs ctx has_nlri a → is_out_of_place ctx a ≡ false
 has-place ctx has_nlri (attr.MpReach (reach.Ip4 hop routes)) in_place = not_from_true ctx.ip4 in_place
 has-place ctx has_nlri (attr.MpReach (reach.Ip6 hop link routes)) in_place = not_from_true ctx.ip6 in_place
@@ -199,7 +199,7 @@ link-has : (link : Option (List ℕ)) → HasLinkRange link → HasLink link
 link-has None range = record { wide = tt }
 link-has (Some addr) range = record { wide = range.wide }
 
--- what is owed of the value that is written: it is kept as it was, where the attribute belongs, and it is octets
+-- what is proved of a value that is written: it is kept unchanged where the attribute belongs, and it is octets
 record Owed (ctx : Context) (has_nlri : Bool) (a : Attr) : Type 0 where
   kept : Belongs ctx has_nlri a → judgement ctx has_nlri (written_tlv ctx a) ≡ judged.Keep a
   octets : AreOctets (value_octets ctx a)

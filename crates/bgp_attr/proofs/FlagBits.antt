@@ -60,7 +60,7 @@ flags_octet-small OptionalTransitive true false = lit< tt
 flags_octet-small OptionalTransitive false true = lit< tt
 flags_octet-small OptionalTransitive false false = lit< tt
 
--- of an optional attribute: transitive or not
+-- of an optional attribute, transitive or non-transitive
 pub is_optional-flags : (transitive partial extended : Bool) → is_optional (flags_octet (optional_class transitive) partial extended) ≡ true
 is_optional-flags true true true = refl
 is_optional-flags true true false = refl

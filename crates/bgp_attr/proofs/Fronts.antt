@@ -1,4 +1,4 @@
--- A number at the front of octets, as the code cuts it off.
+-- A number at the front of octets, as the code splits it off.
 use Rattle.bgp_wire.proofs.Std.{◌≡◌, ℕ, zero, suc, ◌+◌, ◌<◌, ◌≤◌, true, false, List, [], ◌∷◌, length, get_or, take, drop, take-append-drop, Option, Some, None, refl, sym, ap, ◌∙◌, arith, w16, w32, from_be_bytes, le-leb, lt-leb}
 use Rattle.std.proofs.lemmas.List.{length-append, length-take}
 use Rattle.bgp_attr.specs.Prelude.{one_number, one_triple}

@@ -10,7 +10,7 @@ use Rattle.bgp_attr.specs.Prelude.{flags_octet, tlv_octets, value_octets, made, 
 use Rattle.bgp_attr.proofs.CanonicalLength.{length-made, length-canonical}
 use Rattle.bgp_attr.proofs.WrittenTlv.{head_then_value}
 
--- a value of more than 255 octets: an octet is put in, since its length has two
+-- a value of more than 255 octets: an octet is inserted, since its length has two
 pub finished_long : (class : Class) (partial : Bool) (flags kind k start len high low : ℕ) (old mid new : List ℕ) → start + 3 ≤ length old → 255 < len → len ≡ length (drop (start + 3) old)
     → flags ≡ flags_octet class partial true → k ≡ kind → high ∷ low ∷ [] ≡ to_be_bytes w16 len → mid ≡ insert old start 0
     → new ≡ take start mid ++ (flags ∷ k ∷ high ∷ low ∷ [] ++ drop (start + 4) mid)
@@ -48,7 +48,7 @@ no_less false = omega arith
 pub behind_head : (ctx : Context) (a : Attr) → 3 + length (value_octets ctx a) ≤ length (canonical ctx a)
 behind_head ctx a = omega (arith, length-canonical ctx a, no_less (ltb 255 (length (value_octets ctx a))))
 
--- where an octet more has no room, the whole has none
+-- where one more octet has no room, the whole has none
 pub no_octet_more : (class : Class) (partial : Bool) (kind start len room : ℕ) (old : List ℕ) → start + 3 ≤ length old → 255 < len → len ≡ length (drop (start + 3) old) → room < length old + 1
     → room < start + length (made class partial kind (drop (start + 3) old)).whole
 no_octet_more class partial kind start len room old within many len_is full =
@@ -59,7 +59,7 @@ no_octet_more class partial kind start len room old within many len_is full =
 pub nothing_begun : (ctx : Context) (a : Attr) (room : ℕ) (old new : List ℕ) → new ≡ old → room < length old + 3 → Extends old new × (room < length old + length (canonical ctx a))
 nothing_begun ctx a room old new same full = (([], same ∙ sym (append-nil old)), omega (arith, full, behind_head ctx a))
 
--- the whole, made of the value behind the room for the head
+-- the whole, made of the value after the room for the head
 module _ (make : List ℕ → List ℕ) (start : ℕ) (old value mid now : List ℕ) (at : start ≡ length old) (room_is : mid ≡ old ++ 0 ∷ 0 ∷ 0 ∷ []) (now_is : now ≡ mid ++ value) where
   whole_now : now ≡ old ++ 0 ∷ 0 ∷ 0 ∷ value
   whole_now = now_is ∙ ap (λ (b : List ℕ). b ++ value) room_is ∙ append_assoc old (0 ∷ 0 ∷ 0 ∷ []) value
@@ -67,7 +67,7 @@ module _ (make : List ℕ → List ℕ) (start : ℕ) (old value mid now : List 
   pub length_now : length now ≡ start + 3 + length value
   length_now = omega (arith, at, ap length whole_now, length-append old (0 ∷ 0 ∷ 0 ∷ value))
 
-  -- more octets than there can be room for
+  -- more octets than the field can have
   pub too_long : (whole : List ℕ) → 3 + length value ≤ length whole → (room most len : ℕ) → room ≤ most → 3 + most < len - start → len ≡ length now → Extends old now × (room < length old + length whole)
   too_long whole fits room most len low long len_is = ((0 ∷ 0 ∷ 0 ∷ value, whole_now), omega (arith, fits, low, long, len_is, length_now))
 

@@ -1,4 +1,4 @@
--- Large communities, each at its first place, a step at a time.
+-- Large communities without duplicates, a step at a time.
 use Rattle.bgp_wire.proofs.Std.{◌≡◌, ℕ, ◌+◌, ◌<◌, ◌≤◌, Bool, true, false, ◌||◌, ◌&&◌, cond, List, [], ◌∷◌, ◌++◌, length, take, drop, Some, None, refl, sym, ap, ap₂, ◌∙◌, arith, list_any, take_at, drop_at, take-append-drop, take-append-add}
 use Rattle.std.proofs.lemmas.List.{length-append, length-take, length-drop, drop-drop}
 use Rattle.std.proofs.Math.ListN.{drop_of_length-le}
@@ -14,7 +14,7 @@ no_triples = pieces-whole (List ℕ) IsTriple one_triple IsTriple-reads [] [] re
 
 -- ---- the same triple
 
--- the last number first
+-- the last number compared first
 pub last_first : (a b c : Bool) → (c && (a && b)) ≡ (a && (b && c))
 last_first true true true = refl
 last_first true true false = refl
@@ -47,7 +47,7 @@ module _ (b : List ℕ) where
 -- ---- the first new triple
 
 module _ (b : List ℕ) (at : ℕ) where
-  -- at the end nothing is new
+  -- at the end nothing new follows
   pub nothing_new : length b ≤ at → new_from b at ≡ []
   nothing_new le = ap (λ (c : List ℕ). once_behind (triples_of (take at b)) (triples_of c)) (drop_of_length-le b le) ∙ ap (λ (q : List (List ℕ) × List ℕ). once_behind (triples_of (take at b)) q.0) no_triples
 

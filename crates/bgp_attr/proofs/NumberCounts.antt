@@ -1,4 +1,4 @@
--- The first of the numbers that octets begin with.
+-- The first n of the numbers that octets begin with.
 use Rattle.bgp_wire.proofs.Std.{◌≡◌, ℕ, zero, suc, ◌+◌, ◌*◌, ◌<◌, ◌≤◌, Bool, true, false, List, [], ◌∷◌, ◌++◌, length, map, take, drop, refl, sym, ap, ap₂, ◌∙◌, arith, take-append-drop, length-map, take-map, take-append-add}
 use Rattle.std.proofs.lemmas.List.{length-take, length-drop}
 use Rattle.bgp_attr.specs.Prelude.{number_width, number_in, numbers_of, as_number}
@@ -38,7 +38,7 @@ cut wide (suc n) t b total le =
     ∙ ap (λ (ns : List ℕ). number_in wide x ∷ ns) (cut wide n (n * k) y refl (omega (arith, length-drop k b)))
     ∙ ap (take (suc n)) (sym (one_there wide b (omega arith)))
 
--- where there are more than so many, their octets are among those that are there
+-- where there are more than n numbers, the octets of n of them are there
 pub fits : (wide : Bool) (n : ℕ) (b : List ℕ) → n < length (map as_number (numbers_of wide b)) → n * number_width wide ≤ length b
 fits true n b lt = omega (arith, number_count true b, length-map (numbers_of true b) as_number)
 fits false n b lt = omega (arith, number_count false b, length-map (numbers_of false b) as_number)

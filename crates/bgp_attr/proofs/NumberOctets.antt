@@ -7,7 +7,7 @@ use Rattle.bgp_attr.specs.Prelude.{one_number, numbers_of, number_octets, row_oc
 use Rattle.bgp_attr.proofs.Readers.{four_first}
 use Rattle.bgp_attr.proofs.NumberSteps.{number_then, no_number}
 
--- as many octets as whole numbers have
+-- the length without an incomplete number at the end
 abbrev whole : List ℕ → ℕ
 whole b = length b - length b % 4
 
@@ -28,6 +28,6 @@ four_octets (x ∷ y ∷ z ∷ w ∷ b) octets =
     ∙ ap₂ (λ (front rest : List ℕ). front ++ rest) (sym (be_bytes_4 bs n refl (AreOctets-take 4 (x ∷ y ∷ z ∷ w ∷ b) octets) refl)) (four_octets b (λ i. octets (suc (suc (suc (suc i))))))
     ∙ ap (row_octets true) (sym (number_then true (x ∷ y ∷ z ∷ w ∷ b) n b (sym (four_first x y z w b))))
 
--- and so are AS numbers
+-- the same for AS numbers
 pub as_number_octets : (wide : Bool) (ns : List ℕ) → wide ≡ true → row_octets true ns ≡ flat_map (λ (n : AsNumber). number_octets wide n.0) (map as_number ns)
 as_number_octets wide ns e = ap (λ (t : Bool). row_octets t ns) (sym e) ∙ sym (flat_map-map (λ (n : AsNumber). number_octets wide n.0) as_number ns)

@@ -15,7 +15,7 @@ use Rattle.bgp_attr.proofs.Readers.{IsNumber-reads, IsTriple-reads}
 abbrev pub number_of : AsNumber → ℕ
 number_of n = n.0
 
--- the number fits its octets
+-- the number fits in its octets
 abbrev pub Fits : Bool → ℕ → Type 0
 Fits true n = n < 2 ^ 32
 Fits false n = n < 2 ^ 16
@@ -41,7 +41,7 @@ pub number_in-small : (wide : Bool) (b : List ℕ) → AreOctets b → Fits wide
 number_in-small true b octets = four_small b octets
 number_in-small false b octets = two_small b octets
 
--- a number that fits two octets fits four
+-- a number that fits in two octets fits in four
 pub Fits-four : (wide : Bool) (n : ℕ) → Fits wide n → IsFourOctets n
 Fits-four true n small = small
 Fits-four false n small = omega arith
@@ -79,7 +79,7 @@ number_row-small wide (n ∷ ns) b octets row =
     let value : n ≡ number_in wide row.0 = (row.3).value in
     (subst (Fits wide) (sym value) (number_in-small wide row.0 first), number_row-small wide ns row.1 (AreOctets-back row.0 row.1 joined) row.4)
 
--- ---- octets of which there are whole numbers of k are such a row
+-- ---- octets of a length divisible by k are such a row
 
 module _ (A : Type 0) (R : A → List ℕ → Type 0) (k : ℕ) (some : 0 < k) (each : (v : A) (b : List ℕ) → R v b → length b ≡ k)
     (value : List ℕ → A) (means : (b : List ℕ) → length b ≡ k → R (value b) b) where

@@ -20,7 +20,7 @@ module _ (wide : Bool) (b : List ℕ) where
   pub number_shorter : (n : ℕ) (rest : List ℕ) → Some (n, rest) ≡ one_number wide b → length rest < length b
   number_shorter n rest e = shorter ℕ (IsNumber wide) (one_number wide) (IsNumber-reads wide) b n rest e
 
-  -- a test on the numbers, the first of which doesn't pass
+  -- a test on the numbers, which the first one fails
   pub any_number_later : (test : ℕ → Bool) (n : ℕ) (rest : List ℕ) → Some (n, rest) ≡ one_number wide b → test n ≡ false → list_any test (numbers_of wide rest) ≡ list_any test (numbers_of wide b)
   any_number_later test n rest e fails = sym (ap (list_any test) (number_then n rest e) ∙ ap (λ (t : Bool). t || list_any test (numbers_of wide rest)) fails)
 
@@ -30,7 +30,7 @@ module _ (wide : Bool) (b : List ℕ) where
   pub any_number_none : (test : ℕ → Bool) → None ≡ one_number wide b → list_any test (numbers_of wide b) ≡ false
   any_number_none test e = ap (list_any test) (no_number e)
 
--- how many numbers octets begin with
+-- the number of numbers that octets begin with
 pub number_count : (wide : Bool) (b : List ℕ) → length (numbers_of wide b) ≡ length b / number_width wide
 unfolding one_number
 number_count true (x ∷ y ∷ z ∷ w ∷ rest) = ap length (number_then true (x ∷ y ∷ z ∷ w ∷ rest) _ rest (sym (four_first x y z w rest))) ∙ ap suc (number_count true rest) ∙ omega arith

@@ -1,4 +1,4 @@
--- Triples, each at its first place alone: nothing is dropped where none repeats, and what is left has no repeats.
+-- Triples without duplicates: nothing is dropped where none repeats, and what is left has no repeats.
 use Rattle.bgp_wire.proofs.Std.{◌≡◌, ℕ, ◌<◌, ◌≤◌, true, false, ◌||◌, ◌&&◌, eqb, List, [], ◌∷◌, ◌++◌, length, refl, sym, ap, subst, ◌∙◌, append_assoc, arith, list_any, AllByRecursion, false≢true, both_ways, and_parts, or_parts, or_from, cond-false, cond_both, false_from_ne_true, list_any-append}
 use Rattle.std.proofs.lemmas.Bool.{eqb-true}
 use Rattle.std.proofs.lemmas.List.{append-nil}
@@ -28,7 +28,7 @@ same-swaps x y e =
 pub other-swaps : (x y : List ℕ) → same_triple x y ≡ false → same_triple y x ≡ false
 other-swaps x y e = false_from_ne_true (same_triple y x) (λ same. both_ways (same_triple x y) e (same-swaps y x same))
 
--- none of the triples stands among those before
+-- none of the triples is among those before
 abbrev pub NotAmong : List (List ℕ) → List (List ℕ) → Type 0
 NotAmong before xs = AllByRecursion (λ x. list_any (same_triple x) before ≡ false) xs
 
@@ -91,7 +91,7 @@ once-all P before (x ∷ xs) all =
     cond_both (list_any (same_triple x) before) (once_behind (before ++ x ∷ []) xs) (x ∷ once_behind (before ++ x ∷ []) xs) (λ ys. AllByRecursion P ys)
     (λ e. once-all P (before ++ x ∷ []) xs all.1) (λ e. (all.0, once-all P (before ++ x ∷ []) xs all.1))
 
--- what holds of each holds of each that is left
+-- what holds of each triple holds of each that is left
 pub each_once-all : (P : List ℕ → Type 0) (xs : List (List ℕ)) → AllByRecursion P xs → AllByRecursion P (each_once xs)
 each_once-all P xs all = once-all P [] xs all
 
@@ -105,7 +105,7 @@ once-shorter before (x ∷ xs) =
 pub each_once-shorter : (xs : List (List ℕ)) → length (each_once xs) ≤ length xs
 each_once-shorter xs = once-shorter [] xs
 
--- the first one is left
+-- the first triple is left
 pub each_once-some : (xs : List (List ℕ)) → 0 < length xs → 0 < length (each_once xs)
 each_once-some [] some = omega arith
 each_once-some (x ∷ xs) some = omega arith

@@ -1,4 +1,4 @@
--- Octets that are written in parts, of which one may have no room.
+-- Octets written in parts, of which one may have no room.
 use Rattle.bgp_wire.proofs.Std.{◌≡◌, ℕ, ◌+◌, ◌<◌, ◌≤◌, List, [], ◌∷◌, ◌++◌, length, get_or, take, flat_map, refl, sym, ap, ap₂, ◌∙◌, append_assoc, Bool, true, false, false≢true, Result, Ok, Err, OnErr, on_err_weaker, arith, take-append_seam, w16, to_be_bytes}
 use Rattle.std.specs.Prelude.{OnOk, is_err}
 use Rattle.std.proofs.lemmas.Bool.{true≢false}
@@ -22,7 +22,7 @@ pub on_both : {T E A B P : Type 0} (r : Result T E) → (A → B → P) → OnEr
 on_both (Ok x) f a b = tt
 on_both (Err e) f a b = f a b
 
--- what is an error holds no value, and what is a value no error
+-- an error holds no value, and a value no error
 pub not_ok : {T E : Type 0} (P : Type 0) (r : Result T E) (b : Bool) → b ≡ is_err r → b ≡ true → OnOk r P
 not_ok P (Ok x) b is e = absurd (true≢false (sym e ∙ is))
 not_ok P (Err x) b is e = tt
@@ -31,12 +31,12 @@ pub not_err : {T E : Type 0} (P : Type 0) (r : Result T E) (b : Bool) → b ≡ 
 not_err P (Ok x) b is e = tt
 not_err P (Err x) b is e = absurd (false≢true (sym e ∙ is))
 
--- what is behind the old is cut off again
+-- what was written after the old octets is cut off again
 pub all_back : {T E : Type 0} (Q : Type 0) (r : Result T E) (old mid new : List ℕ) (start : ℕ) → start ≡ length old → new ≡ take start mid → OnErr r (Extends old mid × Q) → OnErr r (new ≡ old)
 all_back Q r old mid new start at cut = on_err_weaker r (λ p. cut ∙ ap₂ (λ (n : ℕ) (b : List ℕ). take n b) at p.0.1 ∙ take-append_seam old p.0.0)
 
 module _ (room : ℕ) (old : List ℕ) where
-  -- a part is refused behind those that are written, and leaves some of it
+  -- a part is refused after those that are written, and some of it is left
   pub part_refused : (front part whole now new : List ℕ) → length front + length part ≤ length whole → now ≡ old ++ front
       → Extends now new × (room < length now + length part) → Extends old new × (room < length old + length whole)
   part_refused front part whole now new fits e p = (extends_more old now new front e p.0, omega (arith, p.1, fits, ap length e, length-append old front))
@@ -50,12 +50,12 @@ module _ (room : ℕ) (old : List ℕ) where
       → Extends now new × (room < length now + length part) → Extends old new × (room < length old + length whole)
   last_refused front part whole now new is e p = part_refused front part whole now new (omega (arith, ap length is, length-append front part)) e p
 
-  -- and leaves nothing of it
+  -- and nothing of it is left
   pub last_left_out : (front part whole now new : List ℕ) → front ++ part ≡ whole → now ≡ old ++ front
       → new ≡ now → room < length now + length part → Extends old new × (room < length old + length whole)
   last_left_out front part whole now new is e same full = ((front, same ∙ e), omega (arith, full, ap length is, length-append front part, ap length e, length-append old front))
 
--- the prefixes behind a family and next hops
+-- the prefixes after a family and next hops
 pub behind_hops : (afi : ℕ) (hop : List ℕ) (routes : List PrefixValue) → reach_row afi hop [] ++ run_octets routes ≡ reach_row afi hop routes
 behind_hops afi hop routes = ap (λ (b : List ℕ). to_be_bytes w16 afi ++ (UNICAST ∷ length hop ∷ b)) (append_assoc hop (0 ∷ []) (run_octets routes))
 

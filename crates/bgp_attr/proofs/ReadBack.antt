@@ -1,4 +1,4 @@
--- What is written of an attribute is one whole attribute, and is kept as the value that was written.
+-- The octets written for an attribute are one whole attribute, and are kept as the value that was written.
 use Rattle.bgp_wire.proofs.Std.{◌≡◌, ℕ, ◌+◌, ◌*◌, ◌%◌, ◌^◌, ◌<◌, ◌≤◌, Bool, true, false, not, cond, eqb, ltb, List, [], ◌∷◌, ◌++◌, length, take, drop, Option, Some, None, refl, sym, ap, ap₂, ◌∙◌, arith, w16, w32, to_be_bytes, flat_map, AllByRecursion, le-ltb, ltb-false, or_from, or_left, or_right, from_be_bytes-to_be_bytes_2, from_be_bytes-to_be_bytes_4, take_at, drop_at}
 use Rattle.std.proofs.lemmas.Bool.{eq-eqb, ne_eqb}
 use Rattle.std.proofs.lemmas.List.{length-append}
@@ -78,7 +78,7 @@ module _ (ctx : Context) (has_nlri : Bool) where
   pub this-kept : (a : Attr) → (let type : AttributeType = row_at ctx has_nlri (written_tlv ctx a) (type_of a) in type.value ≡ a → NoneApplies type.tests → ThisKept a)
   this-kept a value none = keeps ctx has_nlri (written_tlv ctx a) _ a (row-at ctx has_nlri (written_tlv ctx a) (type_of a) refl) value none
 
-  -- a number of four octets, in what is made of it and of the Partial bit
+  -- a number of four octets, in the attribute made of it and of the Partial bit
   pub kept-four : (class : Class) (partial : Bool) (as_attr : ℕ → Bool → Attr) (n : ℕ) → IsFourOctets n
       → (let type : AttributeType = row_at ctx has_nlri (written_tlv ctx (as_attr n partial)) (type_of (as_attr n partial)) in
       type.value ≡ as_attr (four_of (to_be_bytes w32 n)) (is_partial (flags_octet class partial false)) → NoneApplies type.tests → ThisKept (as_attr n partial))

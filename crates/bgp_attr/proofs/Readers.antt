@@ -47,7 +47,7 @@ four_first x y z w rest = number_finds true (from_be_bytes w32 (x ∷ y ∷ z �
 
 -- ---- triples
 
--- the steps behind the first number of a triple
+-- the steps after the first number of a triple
 abbrev third : ℕ × List ℕ → ℕ × List ℕ → ℕ × List ℕ → Option (List ℕ × List ℕ)
 third x y z = Some (x.0 ∷ y.0 ∷ z.0 ∷ [], z.1)
 
@@ -182,11 +182,11 @@ IsSegment-reads form = record {
 abbrev pub tlv_with : ℕ → ℕ → List ℕ → List ℕ → TlvValue
 tlv_with flags kind size value = record { flags = flags; kind = kind; whole = flags ∷ kind ∷ (size ++ value); value = value }
 
--- the attribute whose value is what was found
+-- the attribute with the value that was found
 abbrev pub with_value : ℕ → ℕ → List ℕ → List ℕ × List ℕ → Option (TlvValue × List ℕ)
 with_value flags kind size value = Some (tlv_with flags kind size value.0, value.1)
 
--- the attribute behind its length
+-- the attribute after its length
 abbrev pub behind_size : ℕ → ℕ → List ℕ × List ℕ → Option (TlvValue × List ℕ)
 behind_size flags kind size = first_octets (number_of_length size.0) size.1 >>= with_value flags kind size.0
 

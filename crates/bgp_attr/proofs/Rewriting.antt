@@ -1,4 +1,4 @@
--- An attribute that is kept can be written where it was read, in no more octets.
+-- A kept attribute can be written where it was read, in no more octets than it had.
 use Rattle.bgp_wire.proofs.Std.{◌≡◌, ℕ, suc, ◌+◌, ◌^◌, ◌<◌, ◌≤◌, Bool, true, false, not, ◌&&◌, ◌||◌, cond, eqb, ltb, List, [], ◌∷◌, ◌++◌, length, take, drop, Option, Some, None, refl, sym, ap, subst, ◌∙◌, arith, flat_map, AllByRecursion, w16, to_be_bytes, from_be_bytes, ltb-true, le-ltb, not-false, or_from, or_parts, and_left, and_right}
 use Rattle.std.proofs.lemmas.Bool.{eqb-true, ne_eqb}
 use Rattle.std.proofs.lemmas.List.{length-append, length-drop}
@@ -24,7 +24,7 @@ use Rattle.bgp_attr.proofs.RouteRows.{reach-family, reach-hop_octets, reach-vali
 use Rattle.bgp_attr.proofs.Kept.{communities-spells, large-spells, mp_reach-spells, mp_unreach-spells}
 use Rattle.bgp_attr.proofs.TestRows.{NoneApplies, passed, passed_fault, Writes-writable}
 
--- ---- what each value needs, but for its length field
+-- ---- what writing each value needs, but for its length field
 
 -- the attribute's value can be written, in no more octets than it had
 pub record Rewritten (ctx : Context) (has_nlri : Bool) (t : TlvValue) (a : Attr) : Type 0 where
@@ -55,7 +55,7 @@ module _ (ctx : Context) (has_nlri : Bool) (t : TlvValue) (octets : AreOctets t.
   none_as4 : (ctx.as4 && false) ≡ false
   none_as4 = and_right ctx.as4 false refl
 
-  -- an attribute that no reason but a place or a range can keep from being written
+  -- an attribute that only a wrong message or range could keep from being written
   abbrev IsPlain : Attr → Type 0
   IsPlain a = (is_as4 a || (is_too_wide ctx a || (is_empty a || (is_misnamed a || (has_as_zero a || stands_twice a))))) ≡ false
 
@@ -83,7 +83,7 @@ module _ (ctx : Context) (has_nlri : Bool) (t : TlvValue) (octets : AreOctets t.
   next_hop-rewritten none =
       plain (attr.NextHop t.value) refl (not-false _ (passed _ _ none.0)) (record { wide = as_long 4 (passed _ _ none.1.1.0); octets = octets }) (omega arith)
 
-  -- a number of four octets, where it has a place, in what is made of it and of the Partial bit
+  -- a number of four octets, where it belongs, in the attribute made of it and of the Partial bit
   abbrev four_in : (ℕ → Bool → Attr) → Attr
   four_in as_attr = as_attr (four_of t.value) (is_partial t.flags)
 
@@ -186,7 +186,7 @@ module _ (ctx : Context) (has_nlri : Bool) (t : TlvValue) (octets : AreOctets t.
 
 -- ---- the length field
 
--- what a length field of octets holds
+-- what holds of the number in a length field
 record Holds (size : List ℕ) : Type 0 where
   some : 1 ≤ length size
   few : length size ≡ 1 → number_of_length size < 256
@@ -203,7 +203,7 @@ size-holds (x ∷ y ∷ []) extended octets wide = record { some = omega arith; 
 size-holds (x ∷ y ∷ z ∷ size) true octets wide = absurd (omega arith)
 size-holds (x ∷ y ∷ z ∷ size) false octets wide = absurd (omega arith)
 
--- a value of n octets behind its length field has no fewer octets than one of at most n behind the shortest
+-- a value of n octets with its length field is at least as long as one of at most n with the shortest length field
 field-shorter : (size : List ℕ) (n m : ℕ) (long : Bool) → Holds size → n ≡ number_of_length size → m ≤ n → ltb 255 m ≡ long → length (cond long (to_be_bytes w16 m) (m ∷ [])) + m ≤ length size + n
 field-shorter size n m false h is le e = omega (arith, h.some)
 field-shorter size n m true h is le e =
@@ -218,7 +218,7 @@ length-made class partial kind value =
     ap (λ (b : Bool). suc (suc (length (cond b (to_be_bytes w16 (length value)) (length value ∷ []) ++ value)))) extended
     ∙ ap (λ (n : ℕ). suc (suc n)) (length-append (cond (ltb 255 (length value)) (to_be_bytes w16 (length value)) (length value ∷ [])) value)
 
--- what can be written but for its length field can be written behind one
+-- what can be written but for its length field fits one
 pub rewritten-fits : (ctx : Context) (has_nlri : Bool) (t : TlvValue) (a : Attr) (b : List ℕ) (s : IsTlv t b) → AreOctets s.size → Rewritten ctx has_nlri t a → CanBeWritten ctx has_nlri a b
 rewritten-fits ctx has_nlri t a b s octets r =
     let h = size-holds s.size (is_extended t.flags) octets s.wide in

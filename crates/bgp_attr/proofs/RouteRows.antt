@@ -1,4 +1,4 @@
--- Routes of other address families as octets: what they spell is read back, and what is read is spelled and can be written.
+-- Routes of other address families as octets: what is written is read back, and what is read is spelled and can be written.
 use Rattle.bgp_wire.proofs.Std.{◌≡◌, ℕ, suc, ◌+◌, ◌<◌, ◌≤◌, Bool, true, false, not, cond, eqb, ltb, List, [], ◌∷◌, ◌++◌, length, take, drop, Option, Some, None, refl, sym, ap, ap₂, subst, ◌∙◌, append_assoc, arith, AllByRecursion, w16, to_be_bytes, le-ltb, not-false, be_bytes_2, take_at, drop_at, take-append-drop, nil_from_length}
 use Rattle.std.proofs.lemmas.Bool.{eqb-true, eq-eqb, ne_eqb}
 use Rattle.std.proofs.lemmas.List.{length-append, length-take, length-drop}
@@ -60,7 +60,7 @@ family-numbers value family.Ip6 e =
     let p = family-ip6 (eqb (safi_of value) UNICAST) (eqb (afi_of value) IPV4) (eqb (afi_of value) IPV6) e in
     (eqb-true _ _ p.0, eqb-true _ _ p.1)
 
--- the octets of a family's number stand at the front
+-- the octets of a family's number are at the front
 pub family-front : (a b c : ℕ) (rest : List ℕ) (f : Family) → AreOctets (a ∷ b ∷ c ∷ rest) → family_of (a ∷ b ∷ c ∷ rest) ≡ Some f
     → a ∷ b ∷ c ∷ rest ≡ to_be_bytes w16 (afi_number f) ++ (UNICAST ∷ rest)
 family-front a b c rest f octets e =
@@ -183,14 +183,14 @@ first_of : (l : List ℕ) → 0 < length l → (x : ℕ) × (xs : List ℕ) × (
 first_of [] some = absurd (omega arith)
 first_of (x ∷ xs) some = (x, xs, refl)
 
--- the octets behind the reserved one
+-- the octets after the reserved one
 rest-at : (a b c : ℕ) (hop : List ℕ) (reserved : ℕ) (row : List ℕ) → drop (5 + length hop) (a ∷ b ∷ c ∷ length hop ∷ (hop ++ (reserved ∷ row))) ≡ row
 rest-at a b c hop reserved row =
     let long : length (a ∷ b ∷ c ∷ length hop ∷ (hop ++ reserved ∷ [])) ≡ 5 + length hop = omega (arith, length-append hop (reserved ∷ [])) in
     ap (λ (x : List ℕ). drop (5 + length hop) (a ∷ b ∷ c ∷ length hop ∷ x)) (sym (append_assoc hop (reserved ∷ []) row))
     ∙ drop_at (a ∷ b ∷ c ∷ length hop ∷ (hop ++ reserved ∷ [])) row (5 + length hop) long
 
--- the next hop, as many octets as its length says
+-- the next hop, of the length given
 abbrev pub hop_in : List ℕ → List ℕ
 hop_in value = take (next_hop_length value) (next_hop_of value)
 
@@ -225,7 +225,7 @@ octets-unreach f width [] octets e long good = absurd (omega arith)
 octets-unreach f width (a ∷ []) octets e long good = absurd (omega arith)
 octets-unreach f width (a ∷ b ∷ []) octets e long good = absurd (omega arith)
 
--- ---- what is read can be written, in as many octets
+-- ---- routes that were read can be written, in the same number of octets
 
 module _ (f : Family) (width : ℕ) (hop : List ℕ) (routes : List PrefixValue) (b : List ℕ) (octets : AreOctets b) (s : IsReach (afi_number f) width hop routes b) where
   behind_hop : AreOctets (hop ++ (s.reserved ∷ s.row))

@@ -10,6 +10,6 @@ rest_test true rest only all = ap (λ (r : List ℕ). not (eqb (length r) 0)) (s
 rest_test false [] only all = absurd (true≢false (sym (all refl)))
 rest_test false (x ∷ rest) only all = ap not (sym (eqb-suc-zero (length rest)))
 
--- from the answer of a check of a run
+-- from the result of a check of a run
 pub bad_prefix_by : (width : ℕ) (b : List ℕ) (t : Bool) → (IsTrue t → (run_of width b).1 ≡ []) × ((run_of width b).1 ≡ [] → IsTrue t) → not t ≡ has_bad_prefix width b
 bad_prefix_by width b t both = rest_test t (run_of width b).1 both.0 both.1

@@ -1,4 +1,4 @@
--- A segment at the front of octets, as the code cuts it off.
+-- A segment at the front of octets, as the code splits it off.
 use Rattle.bgp_wire.proofs.Std.{◌≡◌, ◌≢◌, ℕ, zero, suc, ◌+◌, ◌-◌, ◌*◌, ◌<◌, ◌≤◌, Bool, true, false, cond, eqb, not, ◌||◌, List, [], ◌∷◌, ◌++◌, length, get_or, take, drop, Option, Some, None, refl, sym, ap, ap₂, subst, ◌∙◌, arith, inl, inr, cases_lt, le-leb, lt-leb, take-append-drop, take-append-add}
 use Rattle.std.proofs.lemmas.Bool.{eq-eqb, ne_eqb}
 use Rattle.std.proofs.lemmas.List.{length-take, length-drop, drop-drop, take_all}
@@ -22,7 +22,7 @@ pub number_short : (wide : Bool) (b : List ℕ) → length b < number_width wide
 unfolding one_number
 number_short wide b lt = rw (lt-leb (number_width wide) (length b) lt) refl
 
--- ---- as many numbers as are counted
+-- ---- the counted number of numbers
 
 one_more : (wide : Bool) (n : ℕ) → suc n * number_width wide ≡ number_width wide + n * number_width wide
 one_more true n = omega arith
@@ -141,7 +141,7 @@ module _ (form : PathForm) (b : List ℕ) (long : 2 ≤ length b) (t : ℕ) (tot
   abbrev behind : List ℕ
   behind = take (length b - 2) (drop 2 b)
 
-  -- what is found where the type is known and some number is counted
+  -- what is found where the type is known and the count isn't 0
   abbrev found : ℕ → Option (WireSegment × List ℕ)
   found m = Some (record { code = code; numbers = numbers_of form.wide (take m behind) }, drop m behind)
 

@@ -1,4 +1,4 @@
--- Rows of segments: what is written of a path is read back, and what is kept of a path that was read can be written.
+-- Rows of segments: a path that is written is read back, and what is kept of a path that was read can be written.
 use Rattle.bgp_wire.proofs.Std.{◌≡◌, ℕ, suc, ◌+◌, ◌*◌, ◌%◌, ◌^◌, ◌<◌, ◌≤◌, Bool, true, false, not, ◌||◌, cond, eqb, ltb, List, [], ◌∷◌, ◌++◌, length, map, Option, Some, None, refl, sym, ap, ap₂, subst, ◌∙◌, arith, flat_map, list_any, AllByRecursion, or_parts, or_from, le-ltb, ltb-false, eqb-false, length-map, flat_map-append, list_any-append}
 use Rattle.std.proofs.lemmas.Bool.{true≢false, ne_eqb}
 use Rattle.std.proofs.lemmas.List.{length-append}
@@ -17,7 +17,7 @@ use Rattle.bgp_attr.proofs.Readers.{IsSegment-reads}
 use Rattle.bgp_attr.proofs.SegmentSteps.{has_zero}
 use Rattle.bgp_attr.proofs.NumberRows.{number_of, Fits, Fits-four, Row-numbers, length-row_octets, length-number_row, number_row-small}
 
--- ---- a segment as it lies in octets
+-- ---- a segment in octets
 
 abbrev pub wire_of : Segment → WireSegment
 wire_of s = record { code = segment_code s.kind; numbers = map number_of s.numbers }
@@ -43,7 +43,7 @@ known-at : (form : PathForm) (kind : SegKind) → is_known form (segment_code ki
 known-at form Set = refl
 known-at form Seq = refl
 
--- the numbers of each segment fit their octets
+-- the numbers of each segment fit in their octets
 abbrev pub AllFit : Bool → List Segment → Type 0
 AllFit wide ss = AllByRecursion (λ s. AllByRecursion (Fits wide) (map number_of s.numbers)) ss
 
@@ -77,7 +77,7 @@ Row-segments form (s ∷ ss) good fit =
 
 -- ---- what is written of a path is read back
 
--- the numbers within their ranges fit, also where they have two octets and none is above those
+-- numbers within their ranges fit, also in two octets where none is above those
 fit_numbers : (wide : Bool) (ns : List AsNumber) → AllByRecursion (λ n. IsFourOctets n.0) ns → (wide ≡ false → list_any (λ n. is_above_two_octets n.0) ns ≡ false)
     → AllByRecursion (Fits wide) (map number_of ns)
 fit_numbers wide [] ranges low = tt
@@ -174,13 +174,13 @@ fault-row form b e =
 pub fault-path : (form : PathForm) (b : List ℕ) → path_fault form b ≡ None → IsPath form (path_of form b) b
 fault-path form b e = record { segments = (segments_of form b).0; row = fault-row form b e; kept = refl }
 
--- and a path that octets spell is the one that they hold
+-- and a path that octets spell is the one in them
 pub path-only : (form : PathForm) (p : AsPath) (b : List ℕ) → IsPath form p b → p ≡ path_of form b
 path-only form p b s =
     let row = pieces-whole WireSegment (IsSegment form) (one_segment form) (IsSegment-reads form) s.segments b s.row in
     ap (λ (ss : List Segment). record { segments = ss }) (s.kept ∙ ap (λ (q : List WireSegment × List ℕ). flat_map kept_segment q.0) (sym row))
 
--- ---- what is kept of a path can be written, in no more octets
+-- ---- what is kept of a path can be written, in no more octets than it had
 
 -- segments that can be written in at most n octets
 pub record Rewrites (wide : Bool) (ss : List Segment) (n : ℕ) : Type 0 where
@@ -267,6 +267,6 @@ row-rewrites form (s ∷ segments) b octets row zeros =
     let whole : length row.0 + length row.1 ≡ length b = sym (ap length row.2 ∙ length-append row.0 row.1) in
     subst (λ (n : ℕ). Rewrites form.wide (kept_segment s ++ flat_map kept_segment segments) n) whole both
 
--- the path that octets without a fault and without an AS number 0 hold
+-- the path in octets without a fault and without an AS number 0
 pub path-rewrites : (form : PathForm) (b : List ℕ) → AreOctets b → path_fault form b ≡ None → path_has_zero form b ≡ false → Rewrites form.wide (path_of form b).segments (length b)
 path-rewrites form b octets fault zeros = row-rewrites form (segments_of form b).0 b octets (fault-row form b fault) zeros

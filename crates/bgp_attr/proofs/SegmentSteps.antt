@@ -35,7 +35,7 @@ module _ (form : PathForm) (b : List ℕ) where
     pub segment_shorter : length rest < length b
     segment_shorter = shorter WireSegment (IsSegment form) (one_segment form) (IsSegment-reads form) b s rest e
 
-    -- a zero so far, in the first segment or in those behind it
+    -- a zero so far, in the first segment or in those after it
     pub zero_then : (so_far found whole : Bool) → found ≡ has_zero s → (so_far || path_has_zero form b) ≡ whole → ((so_far || found) || path_has_zero form rest) ≡ whole
     zero_then so_far found whole e all =
         ap (λ (t : Bool). (so_far || t) || path_has_zero form rest) e

@@ -1,4 +1,4 @@
--- Tables: what holds of each row holds of the entry that is found.
+-- Tables: what holds of each row holds of the entry found.
 use Rattle.bgp_wire.proofs.Std.{◌≡◌, ℕ, Bool, true, false, not, ◌||◌, cond, eqb, List, [], ◌∷◌, map, inl, inr, refl, sym, ap, subst, ◌∙◌, list_any, false≢true, not-false, or_parts, or_cases}
 use Rattle.std.proofs.lemmas.Bool.{true≢false, eqb-true}
 use Rattle.bgp_attr.specs.Prelude.{has_entry, entry_of}
@@ -13,7 +13,7 @@ abbrev pub ◌&◌ : {P Q : Type 0} → P → Q → P × Q
 p & q = (p, q)
 
 infixr 5 ◌&◌
--- an entry that says the number of its row, as one equation of the whole table tells of each, says that which was looked for
+-- where each entry contains the number of its row, the entry found contains the number looked for
 pub same-back : {A : Type 0} (kind : ℕ) (number : A → ℕ) (rows : List (ℕ × A)) → map (λ row. number row.1) rows ≡ map (λ row. row.0) rows → EachRow (λ k a. kind ≡ k → number a ≡ kind) rows
 same-back kind number [] same = tt
 same-back kind number (row ∷ rows) same =
@@ -38,12 +38,12 @@ module _ {A : Type 0} (kind : ℕ) (other : A) where
   none-or row rows true later none = absurd (true≢false none)
   none-or row rows false later none = later none
 
-  -- where no row has the number, the entry is that of all others
+  -- where no row has the number, the entry is that of all other numbers
   pub entry-other : (rows : List (ℕ × A)) → has_entry kind rows ≡ false → entry_of kind rows other ≡ other
   entry-other [] none = refl
   entry-other (row ∷ rows) none = none-or row rows (eqb kind row.0) (entry-other rows) none
 
--- what each number of a table passes, a number passes that has a row
+-- a test that each number of a table passes is passed by a number that has a row
 pub entry-passes : {A : Type 0} (test : ℕ → Bool) (kind : ℕ) (rows : List (ℕ × A)) → list_any (λ (row : ℕ × A). not (test row.0)) rows ≡ false → has_entry kind rows ≡ true → test kind ≡ true
 entry-passes test kind [] all has = absurd (false≢true has)
 entry-passes {A = A} test kind (row ∷ rows) all has =

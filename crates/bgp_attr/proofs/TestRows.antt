@@ -1,4 +1,4 @@
--- Tests in their order: what it means that no test applies, and the row of each type. And the reasons why an attribute isn't written,
+-- Tests in their order: when none applies, and the row of each type. And the reasons why an attribute isn't written,
 -- in theirs.
 use Rattle.bgp_wire.proofs.Std.{◌≡◌, ℕ, Bool, true, false, ◌&&◌, List, [], ◌∷◌, Option, Some, None, refl, sym, ap, subst, ◌∙◌, AllByRecursion, false≢true}
 use Rattle.std.specs.Prelude.{option_map, is_none, not, ◌==◌, if◌then◌else◌}
@@ -47,7 +47,7 @@ abbrev pub IsOfOne : Why → Type 0
 IsOfOne why.Repeated = ⊥
 IsOfOne _ = Unit {0}
 
--- what a test answers: nothing is kept by it, and a reset has the code of an UPDATE Message Error
+-- what a test gives: it keeps nothing, and a reset has the code of an UPDATE Message Error
 abbrev pub IsRefusal : Judged → Type 0
 IsRefusal (judged.Keep a) = ⊥
 IsRefusal (judged.Discard w) = IsOfOne w
@@ -83,7 +83,7 @@ mapped_refuses f (Some w) one h = h w one
 pub fault : {tests : List (Option Judged)} (f : Why → Judged) (o : Option Why) → IsOfOneIfAny o → ((w : Why) → IsOfOne w → IsRefusal (f w)) → AllRefuse tests → AllRefuse (option_map f o ∷ tests)
 fault f o one h later = record { each = (mapped_refuses f o one h, later.each) }
 
--- a fault of a path is none of them
+-- a fault of a path doesn't say so either
 segment_of_one : (unknown none : Bool) → IsOfOneIfAny (if unknown then Some why.SegmentType else (if none then Some why.SegmentCount else Some why.SegmentEnd))
 segment_of_one true none = tt
 segment_of_one false true = tt
@@ -97,14 +97,14 @@ rest_of_one form (code ∷ count ∷ b) = segment_of_one (not (is_known form cod
 pub path_of_one : (form : PathForm) (b : List ℕ) → IsOfOneIfAny (path_fault form b)
 path_of_one form b = rest_of_one form (segments_of form b).1
 
--- a path's fault and its AS number 0, which are found in one walk, are two tests
+-- a path's fault and its AS number 0 are two tests, found in one pass
 pub path_decided : (answer : Why → Judged) (o : Option Why) (has_zero : Bool) (tests : List (Option Judged)) (a : Attr)
     → decided (option_map answer (option_or o (when has_zero why.AsZero)) ∷ tests) a ≡ decided (option_map answer o ∷ when has_zero (answer why.AsZero) ∷ tests) a
 path_decided answer None true tests a = refl
 path_decided answer None false tests a = refl
 path_decided answer (Some w) has_zero tests a = refl
 
--- where only refusals are answered, a value is kept by no test
+-- where tests only refuse, a value is kept because none applies
 pub decided-kept : (tests : List (Option Judged)) (a b : Attr) → AllByRecursion Refuses tests → decided tests a ≡ judged.Keep b → NoneApplies tests × (a ≡ b)
 decided-kept [] a b all e = (tt, cc)
 decided-kept (None ∷ tests) a b all e = let p = decided-kept tests a b all.1 e in ((refl, p.0), p.1)

@@ -1,4 +1,4 @@
--- An attribute at the front of octets, as the code cuts it off.
+-- An attribute at the front of octets, as the code splits it off.
 use Rattle.bgp_wire.proofs.Std.{◌≡◌, ℕ, suc, ◌+◌, ◌-◌, ◌<◌, ◌≤◌, Bool, true, false, cond, List, [], ◌∷◌, ◌++◌, length, get_or, take, drop, Option, Some, None, refl, sym, ap, subst, ◌∙◌, arith, w16, to_be_bytes, from_be_bytes, take-append-add, le-leb, lt-leb, be_bytes_2}
 use Rattle.std.proofs.lemmas.List.{length-append, length-take, length-drop, take_all}
 use Rattle.bgp_wire.specs.Prelude.{AreOctets, ◌>>=◌, first_octets}
@@ -8,7 +8,7 @@ use Rattle.bgp_wire.proofs.Pieces.{found_same, found_not}
 use Rattle.bgp_attr.specs.Prelude.{is_extended, TlvValue, length_width, one_tlv, length_octets, tlv_octets, length_field}
 use Rattle.bgp_attr.proofs.Readers.{tlv_with, with_value, behind_size}
 
--- the octets in front of what follows a value
+-- the octets before what follows a value
 whole_cut : (front b : List ℕ) (n : ℕ) → n ≤ length b → take (length (front ++ b) - length (drop n b)) (front ++ b) ≡ front ++ take n b
 whole_cut front b n le =
     let count : length (front ++ b) - length (drop n b) ≡ length front + n = omega (arith, length-append front b, length-drop n b) in
@@ -20,7 +20,7 @@ value_taken flags kind n size b le = rw (le-leb n (length b) le) refl
 value_short : (flags kind n : ℕ) (size b : List ℕ) → length b < n → (first_octets n b >>= with_value flags kind size) ≡ None
 value_short flags kind n size b lt = rw (lt-leb n (length b) lt) refl
 
--- the attribute that the code makes of the front: all octets in front of what follows the value, and the value
+-- the attribute as the code reads it: its octets are all before what follows the value
 abbrev pub cut_tlv : ℕ → ℕ → List ℕ → ℕ → List ℕ → TlvValue
 cut_tlv flags kind b n rest = record { flags = flags; kind = kind; whole = take (length (flags ∷ kind ∷ b) - length (drop n rest)) (flags ∷ kind ∷ b); value = take n rest }
 

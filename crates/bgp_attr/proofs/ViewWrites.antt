@@ -1,10 +1,10 @@
--- Values that are written as they come out of an iterator.
+-- Values written as an iterator returns them.
 use Rattle.bgp_wire.proofs.Std.{◌≡◌, ℕ, ◌+◌, ◌<◌, List, [], ◌∷◌, ◌++◌, length, refl, sym, ap, ◌∙◌, append_assoc, flat_map, flat_map-cons}
 use Rattle.std.proofs.lemmas.List.{append-nil}
 use Rattle.bgp_wire.specs.Prelude.{Extends}
 use Rattle.bgp_wire.proofs.Rooms.{extends_more, lacks}
 
--- what is there, and those still to come, are what was there and all of them
+-- what is written, and those left, are what was there and all of them
 pub record IsWriting {X : Type 0} (octets : X → List ℕ) (all left : List X) (before now : List ℕ) : Type 0 where
   pub whole : now ++ flat_map octets left ≡ before ++ flat_map octets all
   pub begins : Extends before now

@@ -1,4 +1,4 @@
--- What is written of an attribute is octets.
+-- The written form of an attribute is octets.
 use Rattle.bgp_wire.proofs.Std.{◌≡◌, ℕ, zero, suc, ◌/◌, ◌%◌, ◌^◌, ◌<◌, ◌≤◌, Bool, true, false, cond, eqb, ltb, List, [], ◌∷◌, ◌++◌, length, take, map, Option, Some, None, sym, lit<, arith, flat_map, list_any, AllByRecursion, w16, w32, byte_at, bytes_high_first, to_be_bytes, ltb-false, or_parts}
 use Rattle.std.proofs.lemmas.List.{length-append}
 use Rattle.bgp_numbers.specs.declared.safi.TheConstants.{UNICAST}

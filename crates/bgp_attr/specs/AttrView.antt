@@ -1,4 +1,4 @@
--- What attributes by reference and borrowed attributes are.
+-- The values of attributes by reference and of borrowed attributes.
 use Rattle.bgp_attr.specs.declared.attr.Attr.{Attr}
 use Rattle.bgp_attr.specs.declared.attr.Attr.TheVariants as attr
 use Rattle.bgp_attr.specs.declared.attr.AttrRef.{AttrRef}

@@ -1,4 +1,4 @@
--- What borrowed communities are.
+-- The values of borrowed communities.
 use Rattle.bgp_attr.specs.declared.communities.Communities.{Communities}
 use Rattle.bgp_attr.specs.declared.communities.LargeCommunities.{LargeCommunities}
 use Rattle.bgp_attr.specs.declared.communities_view.CommunitiesView.{CommunitiesView}

@@ -1,4 +1,4 @@
--- How an attribute is judged, told in a few words.
+-- The judgement that a `FoundAttr` holds.
 use Rattle.bgp_frame.specs.Prelude.{notification_of_view}
 use Rattle.bgp_attr.specs.declared.judged.Judged.{Judged}
 use Rattle.bgp_attr.specs.declared.judged.Judged.TheVariants as judged

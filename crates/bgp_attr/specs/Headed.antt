@@ -1,4 +1,4 @@
--- An attribute whose value is there before its head.
+-- An attribute whose value is written before its head.
 use Rattle.std.specs.Prelude.{ℕ, List}
 use Rattle.bgp_attr.specs.declared.attr.Attr.{Attr}
 use Rattle.bgp_attr.specs.Written.{class_of, partial_of, type_of, made}

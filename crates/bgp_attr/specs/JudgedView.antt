@@ -1,4 +1,4 @@
--- What borrowed judgements are.
+-- The values of borrowed judgements.
 use Rattle.std.specs.Prelude.{Bool, true, false}
 use Rattle.bgp_attr.specs.declared.judged.Judged.{Judged}
 use Rattle.bgp_attr.specs.declared.judged.Judged.TheVariants as judged
@@ -12,7 +12,7 @@ judged_value (view.Discard w) = judged.Discard w
 judged_value (view.Withdraw w) = judged.Withdraw w
 judged_value (view.Reset n) = judged.Reset n
 
--- only what is kept takes memory
+-- only a kept attribute allocates
 abbrev pub is_kept : Judged → Bool
 is_kept (judged.Keep a) = true
 is_kept _ = false

@@ -37,11 +37,11 @@ is_not_long n t = not (length t.value == n)
 abbrev pub is_shorter : ℕ → TlvValue → Bool
 is_shorter n t = nat_lt (length t.value) n
 
--- no value at all, or not so many octets each
+-- no value at all, or one that isn't a row of n octets each
 abbrev pub is_no_row : ℕ → TlvValue → Bool
 is_no_row n t = (length t.value == 0) || not (length t.value % n == 0)
 
--- the octets aren't prefixes alone: one is too long, or goes past the end
+-- the octets aren't only prefixes: one is too long, or goes past the end
 abbrev pub has_bad_prefix : ℕ → List ℕ → Bool
 has_bad_prefix width b = not (length (run_of width b).1 == 0)
 
@@ -71,7 +71,7 @@ four_tests class t =
     when (has_other_flags class t) (Withdraw why.Flags) ∷
     when (is_not_long 4 t) (Withdraw why.Length) ∷ []
 
--- the same where it stays inside one system
+-- the same, for an attribute that stays inside one AS
 abbrev pub internal_tests : Context → Class → TlvValue → List (Option Judged)
 internal_tests ctx class t =
     when (not ctx.internal) (Discard why.External) ∷
@@ -109,7 +109,7 @@ mp_unreach_tests ctx t =
     when (not (is_in_use ctx (family_of t.value))) (Discard why.Family) ∷
     when (has_bad_prefix (address_width (family_of t.value)) (withdrawn_of t.value)) (reset_with OPTIONAL_ATTRIBUTE t) ∷ []
 
--- the last: nothing is left where segments of confederations are dropped
+-- the last test: nothing is left after the segments of confederations were dropped
 abbrev pub as4_path_tests : Context → TlvValue → List (Option Judged)
 as4_path_tests ctx t =
     when ctx.as4 (Discard why.FourOctet) ∷
@@ -129,12 +129,12 @@ large_tests t =
     when (has_other_flags OptionalTransitive t) (Withdraw why.Flags) ∷
     when (is_no_row 12 t) (Withdraw why.Length) ∷ []
 
--- a type that isn't recognised: each speaker ought to know it where it isn't optional
+-- a type that isn't recognised: only an optional one may be unknown
 abbrev pub other_tests : TlvValue → List (Option Judged)
 other_tests t =
     when (not (is_optional t.flags)) (reset_with UNRECOGNIZED_WELL_KNOWN t) ∷ []
 
--- what belongs to a type: its tests in their order, and the value of an attribute that is kept
+-- the tests of a type in their order, and the value of an attribute that is kept
 pub record AttributeType : Type 0 where
   pub tests : List (Option Judged)
   pub value : Attr
@@ -167,7 +167,7 @@ is_recognised kind = has_entry kind recognised
 abbrev pub types : Context → Bool → TlvValue → List (ℕ × AttributeType)
 types ctx has_nlri t = map (λ row. (row.0, row.1 ctx has_nlri t)) recognised
 
--- what belongs to all other types
+-- the tests and the value of all other types
 abbrev pub other_type : TlvValue → AttributeType
 other_type t = tested (other_tests t) (attr.Opaque (opaque_of t))
 
@@ -176,7 +176,7 @@ type_row ctx has_nlri t = entry_of t.kind (types ctx has_nlri t) (other_type t)
 
 -- ---- the answer
 
--- the answer of the first test that applies, else the value is kept
+-- the answer of the first test that applies, or the kept value
 abbrev pub decided : List (Option Judged) → Attr → Judged
 decided [] a = Keep a
 decided (None ∷ tests) a = decided tests a

@@ -1,4 +1,4 @@
--- What the laws of attributes say of one that was kept.
+-- What the laws of attributes say of a kept one.
 use Rattle.std.specs.Prelude.{◌≡◌, ◌≤◌, ℕ, Bool, true, List, length}
 use Rattle.bgp_open.specs.declared.context.Context.{Context}
 use Rattle.bgp_attr.specs.declared.attr.Attr.{Attr}

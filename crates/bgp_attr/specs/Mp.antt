@@ -33,7 +33,7 @@ is_in_use ctx None = false
 is_in_use ctx (Some family.Ip4) = ctx.ip4
 is_in_use ctx (Some family.Ip6) = ctx.ip6
 
--- the octets of an address
+-- the length of an address
 abbrev pub address_width : Option Family → ℕ
 address_width (Some family.Ip6) = 16
 address_width _ = 4
@@ -44,7 +44,7 @@ is_next_hop_length None n = false
 is_next_hop_length (Some family.Ip4) n = n == 4
 is_next_hop_length (Some family.Ip6) n = (n == 16) || (n == 32)
 
--- MP_REACH_NLRI: family, length of the next hop in one octet, next hop, a reserved octet that can be any, prefixes
+-- MP_REACH_NLRI: family, length of the next hop in one octet, next hop, a reserved octet of any value, prefixes
 abbrev pub next_hop_length : List ℕ → ℕ
 next_hop_length value = slice_index value 3
 
@@ -64,7 +64,7 @@ reach_of_family _ value = reach.Ip4 (take 4 (next_hop_of value)) (run_of 4 (reac
 abbrev pub mp_reach_of : List ℕ → MpReach
 mp_reach_of value = reach_of_family (family_of value) value
 
--- the next hop and the routes are there to be read, as in each that is kept
+-- the next hop and the routes can be read, as in each that is kept
 pub record IsReachable (value : List ℕ) : Type 0 where
   pub long : 5 + next_hop_length value ≤ length value
   pub hop : IsTrue (is_next_hop_length (family_of value) (next_hop_length value))

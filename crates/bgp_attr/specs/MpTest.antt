@@ -21,7 +21,7 @@ reach_names = Flags ∷ Length ∷ Family ∷ NextHop ∷ NextHop ∷ Prefixes �
 abbrev pub unreach_names : List MpTest
 unreach_names = Flags ∷ Length ∷ Family ∷ Prefixes ∷ []
 
--- of an attribute of another type there is none
+-- none for an attribute of another type
 abbrev pub deciding_test : Context → TlvValue → Option MpTest
 deciding_test ctx t =
     if t.kind == MP_REACH_NLRI then deciding (mp_reach_tests ctx t) reach_names else (

@@ -1,4 +1,4 @@
--- What borrowed routes of other address families are.
+-- The values of borrowed routes of other address families.
 use Rattle.bgp_prefix.specs.Prelude.{prefixes_left}
 use Rattle.bgp_attr.specs.declared.mp.MpReach.{MpReach}
 use Rattle.bgp_attr.specs.declared.mp.MpReach.TheVariants as reach

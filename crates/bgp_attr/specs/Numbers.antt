@@ -4,7 +4,7 @@ use Rattle.std.specs.List.{flat_map, list_any}
 use Rattle.std.specs.Int.{w16, w32, to_be_bytes, from_be_bytes}
 use Rattle.bgp_wire.specs.Prelude.{pieces, first_octets, ◌>>=◌}
 
--- the octets of a number: four where it is wide, else two
+-- the length of a number: four octets where it is wide, else two
 abbrev pub number_width : Bool → ℕ
 number_width wide = if wide then 4 else 2
 
@@ -26,7 +26,7 @@ one_number wide b = do
 abbrev pub numbers_of : Bool → List ℕ → List ℕ
 numbers_of wide b = (pieces (one_number wide) b).0
 
--- what is written of a number, and of a row of them
+-- the octets written for a number, and for a row of them
 abbrev pub number_octets : Bool → ℕ → List ℕ
 number_octets wide n = if wide then to_be_bytes w32 n else to_be_bytes w16 n
 
@@ -55,13 +55,13 @@ abbrev pub same_triple : List ℕ → List ℕ → Bool
 same_triple (a ∷ b ∷ c ∷ []) (x ∷ y ∷ z ∷ []) = (a == x) && ((b == y) && (c == z))
 same_triple _ _ = false
 
--- each triple of xs at its first place alone, and only where it isn't among those before them
+-- the triples of xs without duplicates and without those in `before`
 abbrev pub once_behind : List (List ℕ) → List (List ℕ) → List (List ℕ)
 once_behind before [] = []
 once_behind before (x ∷ xs) =
     if list_any (same_triple x) before then once_behind (before ++ x ∷ []) xs else x ∷ once_behind (before ++ x ∷ []) xs
 
--- each triple at its first place alone
+-- the triples without duplicates, each where it is first
 abbrev pub each_once : List (List ℕ) → List (List ℕ)
 each_once xs = once_behind [] xs
 

@@ -1,4 +1,4 @@
--- AS paths (RFC 4271, section 4.3; RFC 6793, section 3). A segment is a type, a count, and as many AS numbers, one at least.
+-- AS paths (RFC 4271, section 4.3; RFC 6793, section 3). A segment is a type, a count, and that number of AS numbers, at least one.
 use Rattle.std.specs.Prelude.{◌≡◌, ◌<◌, ℕ, Bool, not, ◌&&◌, ◌||◌, ◌==◌, List, [], ◌∷◌, length, map, Option, None, Some, if◌then◌else◌}
 use Rattle.std.specs.List.{flat_map, list_any}
 use Rattle.std.specs.Option.{option_or}
@@ -14,16 +14,16 @@ use Rattle.bgp_attr.specs.declared.why.Why.{Why}
 use Rattle.bgp_attr.specs.declared.why.Why.TheVariants as why
 use Rattle.bgp_attr.specs.Numbers.{IsNumber, one_number}
 
--- a segment before it is known whether it is kept: the octet of its type, and its numbers
+-- a segment of any known type: the octet of its type, and its numbers
 pub record WireSegment : Type 0 where
   pub code : ℕ
   pub numbers : List ℕ
 
--- which types of segment are read: those of confederations in an AS4_PATH alone
+-- which types of segment are read: those of confederations only in an AS4_PATH
 abbrev pub is_known : PathForm → ℕ → Bool
 is_known form code = (code == SET) || ((code == SEQUENCE) || (form.confederations && ((code == CONFED_SEQUENCE) || (code == CONFED_SET))))
 
--- b is the segment, whole
+-- b is exactly the segment
 pub record IsSegment (form : PathForm) (s : WireSegment) (b : List ℕ) : Type 0 where
   pub behind : List ℕ
   pub octets : b ≡ s.code ∷ behind
@@ -67,11 +67,11 @@ kept_segment s = segment_kept_as (kind_of_segment s.code) s.numbers
 abbrev pub kept_segments_of : PathForm → List ℕ → List Segment
 kept_segments_of form b = flat_map kept_segment (segments_of form b).0
 
--- the path that octets hold
+-- the path in octets
 abbrev pub path_of : PathForm → List ℕ → AsPath
 path_of form b = record { segments = kept_segments_of form b }
 
--- why no segment stands at the front of what is left, where something is
+-- why no segment is at the front of what is left, unless that is empty
 abbrev pub segment_fault : PathForm → List ℕ → Option Why
 segment_fault form [] = None
 segment_fault form (code ∷ []) = Some why.SegmentEnd
@@ -84,7 +84,7 @@ segment_fault form (code ∷ count ∷ b) =
 abbrev pub path_fault : PathForm → List ℕ → Option Why
 path_fault form b = segment_fault form (segments_of form b).1
 
--- an AS number 0 stands in a segment, also in one that is dropped (RFC 7607, section 2)
+-- an AS number 0 is in a segment, also in one that is dropped (RFC 7607, section 2)
 abbrev pub path_has_zero : PathForm → List ℕ → Bool
 path_has_zero form b = list_any (λ s. list_any (λ n. n == 0) s.numbers) (segments_of form b).0
 

@@ -1,4 +1,4 @@
--- What borrowed paths and segments are.
+-- The values of borrowed paths and segments.
 use Rattle.std.specs.Prelude.{List}
 use Rattle.bgp_attr.specs.declared.path.Segment.{Segment}
 use Rattle.bgp_attr.specs.declared.path.AsPath.{AsPath}
@@ -14,6 +14,6 @@ segment_value s = record { kind = s.kind; numbers = as_numbers_left s.numbers }
 abbrev pub path_value : PathView → AsPath
 path_value p = path_of p.form p.octets.now
 
--- the segments still to come
+-- the segments not yet returned
 abbrev pub segments_left : SegmentIter → List Segment
 segments_left it = kept_segments_of it.form it.rest.now

@@ -1,4 +1,4 @@
--- The names that other crates and the proofs cite, passed on from one place. Declares nothing.
+-- Re-exports the names that other crates and the proofs cite. Declares nothing.
 pub use Rattle.bgp_attr.specs.Flags.{flags_octet, has_class, is_extended, is_optional, is_partial, is_transitive}
 pub use Rattle.bgp_attr.specs.Tlv.{IsTlv, PlacedTlv, TlvValue, length_octets, length_width, number_of_length, placed_from, tlv_octets, tlvs_of}
 unfoldable pub use Rattle.bgp_attr.specs.Tlv.{one_tlv}

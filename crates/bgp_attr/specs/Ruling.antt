@@ -8,7 +8,7 @@ use Rattle.bgp_attr.specs.declared.judged.Judged.TheVariants as judged
 use Rattle.bgp_attr.specs.declared.ruling.Ruling.{Ruling}
 use Rattle.bgp_attr.specs.declared.ruling.Ruling.TheVariants as ruling
 
--- a reset of code 3 by an attribute of these octets: a malformed list has no information
+-- a reset of code 3 by an attribute of these octets: a malformed list has no data
 abbrev pub attribute_reset : ℕ → List ℕ → Notification
 attribute_reset subcode whole =
     record { code = UPDATE_MESSAGE; subcode = subcode; info = record { items = if subcode == MALFORMED_ATTRIBUTE_LIST then [] else whole } }

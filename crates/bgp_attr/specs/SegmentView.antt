@@ -1,9 +1,9 @@
--- What a borrowed segment is.
+-- The value of a borrowed segment.
 use Rattle.std.specs.Prelude.{Bool}
 use Rattle.bgp_attr.specs.declared.segment.RawSegment.{RawSegment}
 use Rattle.bgp_attr.specs.Numbers.{numbers_of}
 use Rattle.bgp_attr.specs.Path.{WireSegment}
 
--- its type, and the numbers that its octets are
+-- its type, and the numbers in its octets
 abbrev pub wire_segment : Bool → RawSegment → WireSegment
 wire_segment wide s = record { code = s.code; numbers = numbers_of wide s.numbers.now }

@@ -1,5 +1,5 @@
--- What octets spell which attribute (RFC 4271, section 4.3; RFC 1997, section 2; RFC 2545, section 3; RFC 4760, sections 3 and 4;
--- RFC 6793, section 3; RFC 8092, section 3). The Partial bit is kept where a type has one that means something.
+-- Which octets spell which attribute (RFC 4271, section 4.3; RFC 1997, section 2; RFC 2545, section 3; RFC 4760, sections 3 and 4;
+-- RFC 6793, section 3; RFC 8092, section 3). The Partial bit is kept for the types in which it has a meaning.
 use Rattle.std.specs.Prelude.{◌≡◌, ◌<◌, ℕ, Bool, true, false, List, [], ◌∷◌, ◌++◌, length, Option, None, Some, IfSome}
 use Rattle.std.specs.List.{flat_map}
 use Rattle.std.specs.Int.{w16, to_be_bytes}
@@ -86,7 +86,7 @@ pub record IsCommunities (c : Communities) (t : TlvValue) : Type 0 where
   pub some : 0 < length c.values
   pub partial : c.partial ≡ is_partial t.flags
 
--- a row of triples, each kept at its first place alone (RFC 8092, section 3)
+-- a row of triples, kept without duplicates (RFC 8092, section 3)
 pub record IsLarge (l : LargeCommunities) (t : TlvValue) : Type 0 where
   pub of_type : IsOfType attribute.LARGE_COMMUNITY OptionalTransitive t
   pub triples : List (List ℕ)
@@ -95,7 +95,7 @@ pub record IsLarge (l : LargeCommunities) (t : TlvValue) : Type 0 where
   pub values : l.values ≡ each_once triples
   pub partial : l.partial ≡ is_partial t.flags
 
--- a family, the length of the next hop, the next hop, a reserved octet that can be any, and a row of prefixes
+-- a family, the length of the next hop, the next hop, a reserved octet of any value, and a row of prefixes
 pub record IsReach (afi width : ℕ) (hop : List ℕ) (routes : List PrefixValue) (b : List ℕ) : Type 0 where
   pub reserved : ℕ
   pub row : List ℕ

@@ -1,4 +1,4 @@
--- An attribute as it lies in octets (RFC 4271, section 4.3): flags, type, length, value. The length has two octets where the
+-- An attribute in octets (RFC 4271, section 4.3): flags, type, length, value. The length has two octets where the
 -- Extended Length bit is set, else one.
 use Rattle.std.specs.Prelude.{◌≡◌, ℕ, ◌+◌, List, [], ◌∷◌, ◌++◌, length, Option, None, Some, if◌then◌else◌}
 use Rattle.std.specs.Int.{w16, to_be_bytes, from_be_bytes}
@@ -12,16 +12,16 @@ pub record TlvValue : Type 0 where
   pub whole : List ℕ
   pub value : List ℕ
 
--- how many octets the length has
+-- the number of octets of the length field
 abbrev pub length_width : ℕ → ℕ
 length_width flags = if is_extended flags then 2 else 1
 
--- what the octets of a length say
+-- the number in the length field
 abbrev pub number_of_length : List ℕ → ℕ
 number_of_length (n ∷ []) = n
 number_of_length b = from_be_bytes w16 b
 
--- b is the attribute, whole
+-- b is exactly the attribute
 pub record IsTlv (t : TlvValue) (b : List ℕ) : Type 0 where
   pub size : List ℕ
   pub octets : b ≡ t.flags ∷ t.kind ∷ (size ++ t.value)
@@ -29,7 +29,7 @@ pub record IsTlv (t : TlvValue) (b : List ℕ) : Type 0 where
   pub counted : length t.value ≡ number_of_length size
   pub whole : t.whole ≡ b
 
--- the length that is written: the octets that the flags ask for
+-- the length field that is written, of the width given by the flags
 abbrev pub length_octets : ℕ → ℕ → List ℕ
 length_octets flags n = if is_extended flags then to_be_bytes w16 n else n ∷ []
 
@@ -49,12 +49,12 @@ one_tlv _ = None
 abbrev pub tlvs_of : List ℕ → List TlvValue × List ℕ
 tlvs_of b = pieces one_tlv b
 
--- an attribute and the place of its flags
+-- an attribute and the offset of its flags
 pub record PlacedTlv : Type 0 where
   pub at : ℕ
   pub tlv : TlvValue
 
--- attributes one behind the other, the first one at this place
+-- attributes one after another, the first one at this offset
 abbrev pub placed_from : ℕ → List TlvValue → List PlacedTlv
 placed_from at [] = []
 placed_from at (t ∷ ts) = record { at = at; tlv = t } ∷ placed_from (at + length t.whole) ts

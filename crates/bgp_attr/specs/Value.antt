@@ -34,7 +34,7 @@ as4_path_form = record { wide = Bool.true; confederations = Bool.true }
 abbrev pub four_of : List ℕ → ℕ
 four_of value = from_be_bytes w32 value
 
--- an AS number, and an address behind it
+-- an AS number, and an address after it
 abbrev pub aggregator_of : Bool → TlvValue → Aggregator
 aggregator_of wide t = record {
   asn = as_number (number_in wide (take (number_width wide) t.value));

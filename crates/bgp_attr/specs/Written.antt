@@ -1,4 +1,4 @@
--- The one written form of an attribute: the shortest length, and 0 for all that is ignored. And what isn't written.
+-- The one written form of an attribute: the shortest length, and 0 for all that is ignored. And which attributes aren't written.
 use Rattle.std.specs.Prelude.{◌≡◌, ◌<◌, ◌^◌, ℕ, Bool, true, false, not, ◌&&◌, ◌||◌, ◌==◌, nat_lt, List, [], ◌∷◌, ◌++◌, length, map, Option, None, Some, is_none, if◌then◌else◌}
 use Rattle.std.specs.List.{flat_map, list_any, AllByRecursion}
 use Rattle.std.specs.Int.{w16, w32, to_be_bytes}
@@ -64,8 +64,8 @@ unreach_octets (unreach.Ip6 routes) = unreach_row IPV6 routes
 
 -- ---- the form of each type
 
--- what is written of an attribute: its type, the class of its flags, its Partial bit, and its value in a session with AS numbers of
--- four octets or of two. The Partial bit is 0 where the type has none that means something.
+-- how an attribute is written: its type, the class of its flags, its Partial bit, and its value in a session with AS numbers of
+-- four octets or of two. The Partial bit is 0 where it has no meaning for the type.
 pub record Form : Type 0 where
   pub kind : ℕ
   pub class : Class
@@ -106,7 +106,7 @@ partial_of a = (form_of a).partial
 abbrev pub value_octets : Context → Attr → List ℕ
 value_octets ctx a = (form_of a).value ctx.as4
 
--- the second octet of the length stands exactly where the value has more than 255 octets
+-- the length has a second octet exactly where the value has more than 255 octets
 abbrev pub made : Class → Bool → ℕ → List ℕ → TlvValue
 made class partial kind value = record {
   flags = flags_octet class partial (nat_lt 255 (length value));
@@ -134,7 +134,7 @@ is_above_two_octets n = nat_lt 65535 n
 abbrev pub is_zero : ℕ → Bool
 is_zero n = n == 0
 
--- an AS number that two octets can't hold, where it has two
+-- an AS number that doesn't fit in two octets, where it has two
 abbrev pub is_too_wide : Context → Attr → Bool
 is_too_wide ctx (attr.AsPath p) = not ctx.as4 && any_number is_above_two_octets p
 is_too_wide ctx (attr.Aggregator a) = not ctx.as4 && is_above_two_octets (a.asn).0
@@ -145,7 +145,7 @@ is_as4 (attr.As4Path p) = true
 is_as4 (attr.As4Aggregator a) = true
 is_as4 _ = false
 
--- a segment that its count can't be
+-- a segment whose count can't be written
 abbrev pub is_bad_segment : Segment → Bool
 is_bad_segment s = (length s.numbers == 0) || nat_lt 255 (length s.numbers)
 
@@ -167,7 +167,7 @@ has_as_zero (attr.Aggregator a) = is_zero (a.asn).0
 has_as_zero (attr.As4Aggregator a) = is_zero (a.asn).0
 has_as_zero _ = false
 
--- one of the triples stands among those behind it too
+-- one of the triples is also among those after it
 abbrev pub repeats : List (List ℕ) → Bool
 repeats [] = false
 repeats (x ∷ xs) = list_any (same_triple x) xs || repeats xs
@@ -199,7 +199,7 @@ is_writable ctx a = is_none (unwritable ctx a)
 
 -- ---- where an attribute belongs, apart from how it is written
 
--- the session has no place for it, as for routes of an address family that isn't in use
+-- the session has no use for it, as for routes of an address family that isn't in use
 abbrev pub is_out_of_place : Context → Attr → Bool
 is_out_of_place ctx (attr.MpReach (reach.Ip4 hop routes)) = not ctx.ip4
 is_out_of_place ctx (attr.MpReach (reach.Ip6 hop link routes)) = not ctx.ip6
@@ -207,8 +207,8 @@ is_out_of_place ctx (attr.MpUnreach (unreach.Ip4 routes)) = not ctx.ip4
 is_out_of_place ctx (attr.MpUnreach (unreach.Ip6 routes)) = not ctx.ip6
 is_out_of_place ctx _ = false
 
--- What a message is for: NEXT_HOP serves its NLRI, LOCAL_PREF stays inside one system, routes are of a family in use. Each other
--- attribute can stand in every message.
+-- Which message an attribute belongs in: NEXT_HOP where there is NLRI, LOCAL_PREF on internal sessions, routes where their family is in use. Each
+-- other attribute may be in any message.
 abbrev pub Belongs : Context → Bool → Attr → Type 0
 Belongs ctx has_nlri (attr.NextHop addr) = has_nlri ≡ true
 Belongs ctx has_nlri (attr.LocalPref n) = ctx.internal ≡ true

@@ -2,7 +2,7 @@
 
 use bgp_prefix::AsNumber;
 
-/// The speaker that made one route of several (RFC 4271, section 5.1.7; RFC 6793, section 3).
+/// The speaker that aggregated the route (RFC 4271, section 5.1.7; RFC 6793, section 3).
 #[derive(Clone, Copy, PartialEq, Eq)]
 pub struct Aggregator {
     /// Its AS number.

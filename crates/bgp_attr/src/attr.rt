@@ -1,4 +1,4 @@
-//! A path attribute: as a value, by reference, and borrowed, and what stands in front of its value.
+//! A path attribute: as a value, by reference, and borrowed, and what precedes its value.
 
 ghost use Rattle.std.specs.Prelude.{◌≡◌, IfOk};
 ghost use Rattle.bgp_attr.specs.AttrView.{attr_value, ref_value};
@@ -63,7 +63,7 @@ impl Attr {
     }
 }
 
-/// A path attribute whose value stands elsewhere, as in the fields of a message: what is written needs no [`Attr`] made of it.
+/// A path attribute whose value is elsewhere, as in the fields of a message: writing it needs no [`Attr`].
 #[derive(Clone, Copy)]
 pub enum AttrRef<'a> {
     /// ORIGIN.
@@ -119,7 +119,7 @@ impl<'a> From<&'a Attr> for AttrRef<'a> {
     }
 }
 
-/// A path attribute, borrowed: an [`Attr`] with iterators and slices in place of lists.
+/// A path attribute, borrowed: an [`Attr`] with iterators and slices instead of lists.
 #[derive(Clone, Copy)]
 pub enum AttrView<'a> {
     /// ORIGIN.
@@ -164,7 +164,7 @@ impl AttrView<'_> {
     }
 }
 
-/// An attribute by reference, with memory of its own. It is matched by value, which costs proofs less than behind a reference.
+/// An attribute by reference, copied into memory of its own. It is matched by value, which costs proofs less than through a reference.
 fn copy_of(attr: AttrRef<'_>, alloc: Global) -> Result<Attr, AllocError>
     ensures { IfOk result (λ copy. copy ≡ ref_value attr.entry) }
 {
@@ -186,7 +186,7 @@ fn copy_of(attr: AttrRef<'_>, alloc: Global) -> Result<Attr, AllocError>
     })
 }
 
-/// A view, with memory of its own.
+/// A view, copied into memory of its own.
 fn own_view(view: AttrView<'_>, alloc: Global) -> Result<Attr, AllocError>
     ensures { IfOk result (λ a. a ≡ attr_value view.entry) }
 {
@@ -208,7 +208,7 @@ fn own_view(view: AttrView<'_>, alloc: Global) -> Result<Attr, AllocError>
     })
 }
 
-/// What stands in front of an attribute's value: its type, the class of its flags, and its Partial bit.
+/// What precedes an attribute's value: its type, the class of its flags, and its Partial bit.
 #[derive(Clone, Copy)]
 pub(crate) struct Form {
     pub(crate) kind: u8,

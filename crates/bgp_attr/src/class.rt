@@ -3,9 +3,9 @@
 /// What an attribute's Optional and Transitive bits say of its type (RFC 4271, section 5).
 #[derive(Clone, Copy)]
 pub(crate) enum Class {
-    /// Each speaker knows it, and passes it on.
+    /// Well-known: each speaker knows it, and passes it on.
     WellKnown = 1,
-    /// A speaker that doesn't know it drops it.
+    /// A speaker that doesn't know it ignores it, and doesn't pass it on.
     OptionalNonTransitive = 2,
     /// A speaker that doesn't know it passes it on.
     OptionalTransitive = 3,

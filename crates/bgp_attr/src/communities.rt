@@ -10,7 +10,7 @@ use std::alloc::{AllocError, Global};
 pub struct Communities {
     /// The Partial bit.
     pub partial: bool,
-    /// The communities, at least one in what is read: 16 bits of an AS number and 16 bits of its own, each.
+    /// The communities, at least one in what is read: 16 bits of an AS number and 16 bits that this AS defines, each.
     pub values: List<u32>,
 }
 
@@ -35,7 +35,7 @@ impl Communities {
 pub struct LargeCommunities {
     /// The Partial bit.
     pub partial: bool,
-    /// The communities, at least one and each once in what is read: an AS number and two numbers of its own, each.
+    /// The communities, at least one and without duplicates in what is read: an AS number and two numbers that this AS defines, each.
     pub values: List<[u32; 3]>,
 }
 

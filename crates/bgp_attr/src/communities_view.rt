@@ -1,4 +1,4 @@
-//! Communities that still lie in the octets that were read.
+//! Communities borrowed from the octets read.
 
 ghost use Rattle.std.specs.Prelude.{◌≡◌, IfOk};
 
@@ -40,7 +40,7 @@ impl CommunitiesView<'_> {
 pub struct LargeView<'a> {
     /// The Partial bit.
     pub partial: bool,
-    /// The communities, of 12 octets each: at least one and each once in what is read.
+    /// The communities, of 12 octets each: at least one and without duplicates in what is read.
     pub values: LargeCommIter<'a>,
 }
 

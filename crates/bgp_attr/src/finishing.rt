@@ -1,4 +1,4 @@
-//! Writing an attribute whose value is put before its head: nothing is measured.
+//! Writing an attribute whose value is written before its head: nothing is measured.
 
 ghost use Rattle.std.specs.Prelude.{◌≡◌, ◌+◌, ◌<◌, ◌≤◌, [], ◌∷◌, ◌++◌, length, take, drop, OnOk, OnErr};
 ghost use Rattle.bgp_attr.specs.Prelude.{attr_value, headed, made};
@@ -8,10 +8,10 @@ use crate::value_writing::flags_octet;
 use bgp_wire::Output;
 use std::alloc::AllocError;
 
-/// Adds room for the head of an attribute, behind which its value is put then. The room is that of a head with one octet of length.
+/// Appends room for the head of an attribute, with one octet of length; the value is written after it.
 ///
 /// # Errors
-/// `AllocError` where there was no room; what is there is then as it was.
+/// `AllocError` where there was no room; what was written before is then as it was.
 #[inline(always)]
 pub fn begin_attr<O: Output>(out: &mut O) -> Result<(), AllocError>
     ensures ok { OnOk result (O.written out.new ≡ O.written out.old ++ 0 ∷ 0 ∷ 0 ∷ []) }
@@ -21,11 +21,11 @@ pub fn begin_attr<O: Output>(out: &mut O) -> Result<(), AllocError>
     out.put(&[0, 0, 0])
 }
 
-/// Puts a head into the room for it, of three octets at `start`, in front of its value, to which it adds the length: two octets of it where the
-/// value has more than 255, else one (RFC 4271, section 4.3).
+/// Writes the head, with the length, into the three octets of room for it at `start`, before its value: two octets of length where the
+/// value has more than 255 octets, else one (RFC 4271, section 4.3).
 ///
 /// # Errors
-/// `AllocError` where there was no room; what is there is then as it was.
+/// `AllocError` where there was no room; what was written before is then as it was.
 #[inline(always)]
 pub(crate) fn finish<O: Output>(form: Form, start: usize, out: &mut O) -> Result<(), AllocError>
     requires room { start + 3 ≤ length (O.written out.old) }
@@ -46,11 +46,11 @@ pub(crate) fn finish<O: Output>(form: Form, start: usize, out: &mut O) -> Result
     Ok(())
 }
 
-/// Puts the head of an attribute into the room for it, of three octets at `start`, in front of its value, to which it adds the length. Of the
-/// attribute the type and the flags alone are read.
+/// Writes the head of an attribute, with the length, into the three octets of room for it at `start`, before its value. Only the type and
+/// the flags of `view` are read.
 ///
 /// # Errors
-/// `AllocError` where there was no room; what is there is then as it was.
+/// `AllocError` where there was no room; what was written before is then as it was.
 #[inline(always)]
 pub fn finish_attr<O: Output>(
     view: &AttrView<'_>,

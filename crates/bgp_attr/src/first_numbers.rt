@@ -1,4 +1,4 @@
-//! How many AS numbers a segment has, and the first of them.
+//! The number of AS numbers in a segment, and the first of them.
 
 ghost use Rattle.std.specs.Prelude.{◌≡◌, length, take};
 
@@ -8,14 +8,14 @@ use crate::segment::number_width;
 impl<'a> AsNumberIter<'a> {
     ghost use Rattle.bgp_attr.specs.NumberIter.{as_numbers_left};
 
-    /// How many numbers are still to come.
+    /// The number of AS numbers that are left.
     pub fn left(&self) -> usize
         ensures { result ≡ length (as_numbers_left self.now) }
     {
         count_numbers(self.wide, self.rest)
     }
 
-    /// The first numbers still to come, as many as these, or all where there are fewer.
+    /// The first `count` of the numbers left, or all where there are fewer.
     pub fn first(self, count: usize) -> AsNumberIter<'a>
         ensures { as_numbers_left result ≡ take count (as_numbers_left self.entry) }
     {

@@ -1,4 +1,4 @@
-//! The attribute at the front of octets.
+//! The first attribute of the input.
 
 ghost use Rattle.std.specs.Prelude.{◌≡◌, ◌<◌, ◌≤◌, ◌∷◌, length, option_map, Some, None, IfSome};
 ghost use Rattle.bgp_attr.specs.Prelude.{is_extended, one_tlv, tlvs_of, tlv_at, tlv_value, length_field};
@@ -7,7 +7,7 @@ use crate::flags::Flags;
 use crate::tlv::Tlv;
 use std::cmp::min;
 
-/// The length that begins with an octet, of two octets where the flags say so, else of one, and what follows it.
+/// The length field that begins with an octet, of two octets where the flags say so, else of one, and what follows it.
 #[inline(always)]
 fn length_behind(flags: Flags, first: u8, octets: &[u8]) -> Option<(usize, &[u8])>
     ensures { option_map (λ x. (x.0, x.1.now)) result ≡ length_field (is_extended flags.0) (first ∷ octets.now) }
@@ -27,7 +27,7 @@ pub(crate) fn first_tlv(at: usize, octets: &[u8]) -> Option<(Tlv<'_>, &[u8])>
     ensures found { option_map (λ x. (tlv_value x.0, x.1.now)) result ≡ one_tlv octets.now }
     ensures at { IfSome result (λ x. x.0.at ≡ at) }
 {
-    // An attribute has three octets at least: one test, in place of one for each.
+    // An attribute has at least three octets: one test instead of one for each.
     let [flags, kind, first, rest @ ..] = octets else {
         return None;
     };
@@ -49,7 +49,7 @@ pub(crate) fn first_tlv(at: usize, octets: &[u8]) -> Option<(Tlv<'_>, &[u8])>
     Some((tlv, after))
 }
 
-/// The attribute at an offset of a field, where one begins there and is whole.
+/// The attribute at an offset of a field, where a whole one begins there.
 #[inline(always)]
 pub fn tlv_at(field: &[u8], at: usize) -> Option<Tlv<'_>>
     ensures { option_map tlv_value result ≡ tlv_at field.now at }
@@ -61,7 +61,7 @@ pub fn tlv_at(field: &[u8], at: usize) -> Option<Tlv<'_>>
     }
 }
 
-/// What is left behind the attributes that octets begin with.
+/// What is left after the attributes that octets begin with.
 pub(crate) fn skip_tlvs(octets: &[u8]) -> &[u8]
     ensures { result.now ≡ (tlvs_of octets.now).1 }
 {

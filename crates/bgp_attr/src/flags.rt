@@ -26,7 +26,7 @@ impl Flags {
         self.0 >> 6 & 1 == 1
     }
 
-    /// The Partial bit: a speaker on the way didn't know the type.
+    /// The Partial bit: a speaker that passed the attribute on didn't know the type.
     #[tactic(auto, using(std::proofs::lemmas::Nat::Bits::shr_and_one))]
     pub fn is_partial(self) -> bool
         ensures { result ≡ is_partial self.0 }

@@ -1,4 +1,4 @@
-//! The judgement of one attribute, in a few words that point into its octets.
+//! The judgement of one attribute, with all that it holds borrowed.
 
 ghost use Rattle.std.specs.Prelude.{◌≡◌};
 
@@ -7,17 +7,17 @@ use crate::judged_view::JudgedView;
 use crate::why::Why;
 use bgp_frame::NotificationView;
 
-/// The judgement of one attribute, as [`JudgedView`] says, with the information of a NOTIFICATION borrowed too: an UPDATE is judged by these,
-/// since each is small.
+/// The judgement of one attribute, as [`JudgedView`], but small: the data of a NOTIFICATION is borrowed too. An UPDATE is judged
+/// by these.
 #[derive(Clone, Copy)]
 pub enum FoundAttr<'a> {
     /// It is kept.
     Keep(AttrView<'a>),
-    /// It is dropped, and the message goes on without it.
+    /// It is discarded (attribute discard).
     Discard(Why),
     /// Its message is treated as a withdrawal (treat-as-withdraw).
     Withdraw(Why),
-    /// The session ends with this notification.
+    /// The session ends with this NOTIFICATION.
     Reset(NotificationView<'a>),
 }
 
@@ -25,7 +25,7 @@ impl<'a> FoundAttr<'a> {
     ghost use Rattle.bgp_attr.specs.FoundAttr.{found_attr_value};
     ghost use Rattle.bgp_attr.specs.JudgedView.{judged_value};
 
-    /// The same, with a notification of its own.
+    /// The same, with a NOTIFICATION of its own.
     pub fn into_view(self) -> JudgedView<'a>
         ensures { judged_value result ≡ found_attr_value self.entry }
     {

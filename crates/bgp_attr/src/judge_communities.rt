@@ -60,7 +60,7 @@ pub fn large_in<'a>(tlv: &Tlv<'a>) -> LargeView<'a>
     }
 }
 
-/// How an attribute of a type that isn't recognised is judged, the first of its type (RFC 4271, section 6.3).
+/// The judgement of an attribute of a type that isn't recognised, the first of its type (RFC 4271, section 6.3).
 pub fn rule_other(tlv: &Tlv<'_>) -> Ruling
     ensures { (a : Attr) → ruled result tlv.now.whole.now a ≡ decided (other_tests (tlv_value tlv.now)) a }
 {
@@ -70,7 +70,7 @@ pub fn rule_other(tlv: &Tlv<'_>) -> Ruling
     Ruling::Keep
 }
 
-/// An attribute of a type that isn't recognised, which is kept.
+/// The value of an attribute of a type that isn't recognised, which is kept.
 pub fn opaque_in<'a>(tlv: &Tlv<'a>) -> OpaqueView<'a>
     ensures { opaque_value result ≡ opaque_of (tlv_value tlv.now) }
 {

@@ -11,7 +11,7 @@ use crate::tlv::Tlv;
 use crate::why::Why;
 use bgp_open::Context;
 
-/// The first octets, as many as an address has.
+/// The first octets, of the length of an address.
 pub(crate) fn address<const N: usize>(octets: &[u8]) -> [u8; N]
     requires { N ≤ length octets.now }
     ensures { result ≡ take N octets.now }
@@ -81,7 +81,7 @@ pub fn four_in(octets: &[u8]) -> u32
     u32::from_be_bytes([octets[0], octets[1], octets[2], octets[3]])
 }
 
-/// An attribute that is a number of four octets, as MULTI_EXIT_DISC is (RFC 7606, section 7.4).
+/// An attribute that is a number of four octets, as MULTI_EXIT_DISC (RFC 7606, section 7.4).
 #[inline(always)]
 pub(crate) fn rule_four(class: Class, tlv: &Tlv<'_>) -> Ruling
     ensures { (a : Attr) → ruled result tlv.now.whole.now a ≡ decided (four_tests class (tlv_value tlv.now)) a }
@@ -95,7 +95,7 @@ pub(crate) fn rule_four(class: Class, tlv: &Tlv<'_>) -> Ruling
     Ruling::Keep
 }
 
-/// The same where it stays inside one system, as LOCAL_PREF does (RFC 7606, section 7.5).
+/// The same where it stays inside one AS, as LOCAL_PREF (RFC 7606, section 7.5).
 #[inline(always)]
 pub(crate) fn rule_internal(ctx: &Context, class: Class, tlv: &Tlv<'_>) -> Ruling
     ensures { (a : Attr) → ruled result tlv.now.whole.now a ≡ decided (internal_tests ctx.now class (tlv_value tlv.now)) a }

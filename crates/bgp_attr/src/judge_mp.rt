@@ -41,7 +41,7 @@ pub(crate) fn is_in_use(ctx: &Context, family: Family) -> bool
     }
 }
 
-/// Whether a next hop of the family may have so many octets.
+/// Whether a next hop of the family may have this length.
 pub(crate) fn is_next_hop_length(family: Family, len: usize) -> bool
     ensures { result ≡ is_next_hop_length (Some family) len }
 {
@@ -51,7 +51,7 @@ pub(crate) fn is_next_hop_length(family: Family, len: usize) -> bool
     }
 }
 
-/// Whether octets are prefixes of the family alone.
+/// Whether octets are only prefixes of the family.
 #[tactic(auto, using(crate::proofs::Runs::bad_prefix_by))]
 pub(crate) fn is_run(family: Family, octets: &[u8]) -> bool
     ensures { not result ≡ has_bad_prefix (address_width (Some family)) octets.now }
@@ -62,7 +62,7 @@ pub(crate) fn is_run(family: Family, octets: &[u8]) -> bool
     }
 }
 
-/// The link-local address behind a global one, where the next hop has both.
+/// The link-local address after a global one, where the next hop has both.
 fn link_local(len: usize, hop: &[u8]) -> Option<[u8; 16]>
     requires { len ≤ length hop.now }
     ensures { result ≡ (if len == 32 then Some (take 16 (drop 16 hop.now)) else None) }
@@ -143,7 +143,7 @@ pub fn reach_in(value: &[u8]) -> MpReachView<'_>
 {
     match family_of(value) {
         Some(family) => reach_of(family, value),
-        // Of no value that is kept.
+        // Not of a value that is kept.
         None => reach_of(Family::Ip4, value),
     }
 }
@@ -192,7 +192,7 @@ pub fn unreach_in(value: &[u8]) -> MpUnreachView<'_>
 {
     match family_of(value) {
         Some(family) => unreach_of(family, value),
-        // Of no value that is kept.
+        // Not of a value that is kept.
         None => unreach_of(Family::Ip4, value),
     }
 }

@@ -12,11 +12,11 @@ use std::alloc::{AllocError, Global};
 pub enum Judged {
     /// It is kept.
     Keep(Attr),
-    /// It is dropped, and the message goes on without it.
+    /// It is discarded (attribute discard).
     Discard(Why),
     /// Its message is treated as a withdrawal (treat-as-withdraw).
     Withdraw(Why),
-    /// The session ends with this notification.
+    /// The session ends with this NOTIFICATION.
     Reset(Notification),
 }
 

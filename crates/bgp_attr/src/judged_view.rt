@@ -13,11 +13,11 @@ use std::alloc::{AllocError, Global};
 pub enum JudgedView<'a> {
     /// It is kept.
     Keep(AttrView<'a>),
-    /// It is dropped, and the message goes on without it.
+    /// It is discarded (attribute discard).
     Discard(Why),
     /// Its message is treated as a withdrawal (treat-as-withdraw).
     Withdraw(Why),
-    /// The session ends with this notification.
+    /// The session ends with this NOTIFICATION.
     Reset(Notification),
 }
 
@@ -27,7 +27,7 @@ impl JudgedView<'_> {
     /// The judgement, with memory of its own.
     ///
     /// # Errors
-    /// `AllocError` where an allocation failed: only what is kept takes memory.
+    /// `AllocError` where an allocation failed: only a kept attribute allocates.
     pub fn own(&self, alloc: Global) -> Result<Judged, AllocError>
         ensures value { IfOk result (λ j. j ≡ judged_value self.now) }
         ensures err { OnErr result (IsTrue (is_kept (judged_value self.now))) }

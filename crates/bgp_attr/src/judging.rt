@@ -26,7 +26,7 @@ use bgp_numbers::attribute;
 use bgp_open::Context;
 use std::alloc::{AllocError, Global};
 
-/// Judges the first attribute of its type in a message as [`rule`] does, where that type is recognised: one choice by the type tells both.
+/// Judges the first attribute of its type in a message as [`rule`] does, or returns None where the type isn't recognised: one `match` does both.
 #[inline(always)]
 pub fn rule_recognised(ctx: &Context, has_nlri: bool, tlv: &Tlv<'_>) -> Option<Ruling>
     ensures { MatchOption result (is_recognised tlv.now.kind ≡ false)
@@ -51,7 +51,7 @@ pub fn rule_recognised(ctx: &Context, has_nlri: bool, tlv: &Tlv<'_>) -> Option<R
 }
 
 /// Judges the first attribute of its type in a message, apart from its value, without memory: by the first test of its type that applies
-/// (RFC 4271, section 6.3; RFC 7606, sections 3 to 7; RFC 7607). The attribute has at most 4075 octets, as each of a message has.
+/// (RFC 4271, section 6.3; RFC 7606, sections 3 to 7; RFC 7607). The attribute has at most 4075 octets, as each in a message.
 ///
 /// `has_nlri` says that the NLRI field of the message isn't empty.
 #[inline(always)]
@@ -64,8 +64,8 @@ pub fn rule(ctx: &Context, has_nlri: bool, tlv: &Tlv<'_>) -> Ruling
     }
 }
 
-/// The value of an attribute of a type that is kept in a context. `has_nlri` is that of its judgement. The type is told, so that who knows it pays
-/// for no other.
+/// The value of an attribute of a type that is kept in a context. `has_nlri` is that of its judgement. A `kind` known at the call lets the
+/// compiler drop the other arms.
 #[tactic(auto, unfolding(crate::specs::Judgement::type_row))]
 #[inline(always)]
 pub fn kept_attr<'a>(ctx: &Context, has_nlri: bool, kind: u8, tlv: &Tlv<'a>) -> AttrView<'a>
@@ -91,7 +91,7 @@ pub fn kept_attr<'a>(ctx: &Context, has_nlri: bool, kind: u8, tlv: &Tlv<'a>) -> 
     }
 }
 
-/// A ruling on an attribute, with its value where it is kept: [`rule`] has to keep it then.
+/// A ruling on an attribute, with its value where it is kept: [`rule`] must keep it then.
 #[inline(always)]
 pub fn with_value<'a>(ctx: &Context, has_nlri: bool, tlv: &Tlv<'a>, ruling: Ruling) -> FoundAttr<'a>
     requires short { length tlv.now.whole.now ≤ 4075 }
@@ -106,7 +106,7 @@ pub fn with_value<'a>(ctx: &Context, has_nlri: bool, tlv: &Tlv<'a>, ruling: Ruli
     }
 }
 
-/// The judgement of the first attribute of its type in a message, as [`rule`] says, with its value where it is kept.
+/// The judgement of the first attribute of its type in a message, as by [`rule`], with its value where it is kept.
 pub fn judge_attribute<'a>(ctx: &Context, has_nlri: bool, tlv: &Tlv<'a>) -> FoundAttr<'a>
     requires { length tlv.now.whole.now ≤ 4075 }
     ensures { found_attr_value result ≡ judgement ctx.now has_nlri (tlv_value tlv.now) }
@@ -114,7 +114,7 @@ pub fn judge_attribute<'a>(ctx: &Context, has_nlri: bool, tlv: &Tlv<'a>) -> Foun
     with_value(ctx, has_nlri, tlv, rule(ctx, has_nlri, tlv))
 }
 
-/// The judgement of the first attribute of its type in a message, as [`judge_attribute`] says, with a notification of its own.
+/// The judgement of the first attribute of its type in a message, as by [`judge_attribute`], with a NOTIFICATION of its own.
 pub fn judge_view<'a>(ctx: &Context, has_nlri: bool, tlv: &Tlv<'a>) -> JudgedView<'a>
     requires { length tlv.now.whole.now ≤ 4075 }
     ensures { judged_value result ≡ judgement ctx.now has_nlri (tlv_value tlv.now) }
@@ -122,7 +122,7 @@ pub fn judge_view<'a>(ctx: &Context, has_nlri: bool, tlv: &Tlv<'a>) -> JudgedVie
     judge_attribute(ctx, has_nlri, tlv).into_view()
 }
 
-/// The judgement of the first attribute of its type in a message, as [`judge_view`] says.
+/// The judgement of the first attribute of its type in a message, as by [`judge_view`].
 ///
 /// # Errors
 /// `AllocError` where an allocation failed: only where the attribute is kept.
@@ -161,7 +161,7 @@ pub fn is_recognised(kind: u8) -> bool
     }
 }
 
-/// Whether the session has no place for the attribute, as for routes of an address family that isn't in use (RFC 4760, section 8).
+/// Whether the session has no use for the attribute, as for routes of an address family that isn't in use (RFC 4760, section 8).
 pub fn is_out_of_place(ctx: &Context, attr: AttrRef<'_>) -> bool
     ensures { result ≡ is_out_of_place ctx.now (ref_value attr.entry) }
 {

@@ -7,7 +7,7 @@ ghost use Rattle.bgp_attr.specs.Numbers.{one_triple};
 use crate::large_view::first_new_triple;
 use std::iter::FusedIterator;
 
-/// The communities of LARGE_COMMUNITY in order, each at its first place alone (RFC 8092, section 3). It takes no memory.
+/// The communities of LARGE_COMMUNITY in order, without duplicates (RFC 8092, section 3). It allocates nothing.
 #[derive(Clone, Copy)]
 pub struct LargeCommIter<'a> {
     octets: &'a [u8],

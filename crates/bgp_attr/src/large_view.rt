@@ -1,10 +1,10 @@
-//! Large communities that still lie in the octets that were read.
+//! Large communities borrowed from the octets read.
 
 ghost use Rattle.std.specs.Prelude.{◌≡◌, ◌≤◌, length, take, [], ◌∷◌, option_map, MatchOption};
 ghost use Rattle.std.specs.List.{list_any};
 ghost use Rattle.bgp_attr.specs.Prelude.{one_triple, triples_of, same_triple, IsRowUpTo, new_from, GivesNew};
 
-/// The three numbers at the front, and what follows them: cut off at once, since each triple is compared with all before it.
+/// The three numbers at the front, and what follows them, split off at once, since each triple is compared with all before it.
 #[tactic(auto, using(crate::proofs::Fronts::twelve_taken, crate::proofs::Fronts::twelve_short))]
 fn first_triple(octets: &[u8]) -> Option<([u32; 3], &[u8])>
     ensures { option_map (λ x. (x.0, x.1.now)) result ≡ one_triple octets.now }
@@ -16,7 +16,7 @@ fn first_triple(octets: &[u8]) -> Option<([u32; 3], &[u8])>
     Some(([first, second, third], rest))
 }
 
-/// Whether two triples are the same. The last numbers are compared first, since those of one network differ there, if at all.
+/// Whether two triples are the same. The last numbers are compared first, since those of one network mostly differ there.
 #[tactic(auto, using(crate::proofs::LargeSteps::last_first))]
 #[inline(always)]
 pub(crate) fn is_same(one: &[u32; 3], other: &[u32; 3]) -> bool
@@ -41,7 +41,7 @@ fn stands_in(triple: [u32; 3], octets: &[u8]) -> bool
     false
 }
 
-/// The first triple of LARGE_COMMUNITY from an offset on that isn't among those before it, and the offset behind it (RFC 8092, section 3).
+/// The first triple of LARGE_COMMUNITY from an offset on that isn't among those before it, and the offset after it (RFC 8092, section 3).
 pub fn first_new_triple(octets: &[u8], from: usize) -> Option<([u32; 3], usize)>
     requires { IsRowUpTo octets.now from }
     ensures { GivesNew octets.now from result }

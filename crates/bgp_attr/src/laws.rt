@@ -9,7 +9,7 @@ ghost use Rattle.bgp_attr.specs.Prelude.{TlvValue, IsTlv, one_tlv, tlvs_of, IsNu
 ghost use Rattle.bgp_attr.specs.declared.judged.Judged.TheVariants.{Keep};
 
 /// The readers of attributes, of segments of paths, of numbers and of large communities find each
-/// one that stands at the front, and nothing else.
+/// one at the front of octets, and nothing else.
 pub fn readings_are_spellings()
     ensures attributes { Reads IsTlv one_tlv }
     ensures segments { (form : PathForm) → Reads (IsSegment form) (one_segment form) }
@@ -17,7 +17,7 @@ pub fn readings_are_spellings()
     ensures triples { Reads IsTriple one_triple }
 {}
 
-/// No attribute begins another one, and the octets of each have one value; and so it is
+/// No attribute is the beginning of another, and the octets of each have one value; and so it is
 /// with segments of paths, numbers and large communities.
 pub fn spellings_are_prefix_free()
     ensures attributes { IsPrefixFree IsTlv }
@@ -34,7 +34,7 @@ pub fn fields_split_in_one_way()
         → Splits IsTlv b tlvs rest → tlvs_of b ≡ (tlvs, rest) }
 {}
 
-/// An attribute that is kept is one that its octets spell, and they spell no other.
+/// A kept attribute is one that its octets spell, and they spell no other.
 pub fn what_is_kept_is_spelled()
     ensures spelled { (ctx : Context) (has_nlri : Bool) (t : TlvValue) (a : Attr)
         → AreOctets t.value → judgement ctx has_nlri t ≡ Keep a → Spells ctx t a }
@@ -42,14 +42,14 @@ pub fn what_is_kept_is_spelled()
         → judgement ctx has_nlri t ≡ Keep a → Spells ctx t b → b ≡ a }
 {}
 
-/// An attribute that is kept can be written where it was read, in no more octets.
+/// A kept attribute can be written where it was read, in no more octets than it had.
 pub fn kept_attributes_are_writable()
     ensures { (ctx : Context) (has_nlri : Bool) (t : TlvValue) (a : Attr) (b : List ℕ)
         → IsTlv t b → AreOctets b → judgement ctx has_nlri t ≡ Keep a
         → CanBeWritten ctx has_nlri a b }
 {}
 
-/// What is written of an attribute is one whole attribute, of octets, and is kept as this value in
+/// The octets written for an attribute are one whole attribute, and are kept as this value in
 /// each message where it belongs.
 pub fn written_attributes_are_kept()
     ensures octets { (ctx : Context) (a : Attr)

@@ -1,4 +1,4 @@
-//! Path attributes of BGP-4: as they lie in octets, how they are judged, and how they are written
+//! Path attributes of BGP-4: their octets, how they are judged, and how they are written
 //! (RFC 4271, sections 4.3, 5 and 6.3; RFC 1997, 4760, 6793, 7606, 7607 and 8092).
 #![tactic(auto)]
 

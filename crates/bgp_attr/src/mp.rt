@@ -53,7 +53,7 @@ impl MpReach {
     }
 }
 
-/// MP_UNREACH_NLRI: routes that are gone (RFC 4760, section 4).
+/// MP_UNREACH_NLRI: withdrawn routes (RFC 4760, section 4).
 #[derive(Drop, PartialEq)]
 pub enum MpUnreach {
     /// IPv4 unicast.

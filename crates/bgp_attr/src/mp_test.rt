@@ -10,16 +10,16 @@ use crate::tlv::Tlv;
 use bgp_numbers::attribute;
 use bgp_open::Context;
 
-/// A test of MP_REACH_NLRI or MP_UNREACH_NLRI. All but `Family`, which discards the attribute, answer the message by a NOTIFICATION of 3/9.
+/// A test of MP_REACH_NLRI or MP_UNREACH_NLRI. `Family` discards the attribute; all others end the session by a NOTIFICATION of 3/9.
 #[derive(Clone, Copy, Debug, PartialEq, Eq)]
 pub enum MpTest {
     /// The Optional or the Transitive bit isn't that of the type (RFC 4760, sections 3 and 4).
     Flags,
-    /// The value is too short to have a family and, of MP_REACH_NLRI, a next hop (RFC 7606, section 5.3).
+    /// The value is too short for a family and, of MP_REACH_NLRI, a next hop (RFC 7606, section 5.3).
     Length,
     /// The family isn't in use on the session (RFC 4760, section 8).
     Family,
-    /// The length of the next hop isn't one of the family, or goes past the end (RFC 7606, section 7.11).
+    /// The length of the next hop isn't one of its family, or goes past the end (RFC 7606, section 7.11).
     NextHop,
     /// A prefix is too long, or goes past the end (RFC 7606, section 5.3).
     Prefixes,
@@ -79,8 +79,8 @@ fn unreach_test(ctx: &Context, tlv: &Tlv<'_>) -> Option<MpTest>
     }
 }
 
-/// The test that decides the judgement of the first MP_REACH_NLRI or MP_UNREACH_NLRI of a message ([`rule`](crate::rule)): none of one that is kept,
-/// or of an attribute of another type.
+/// The test that decides the judgement of the first MP_REACH_NLRI or MP_UNREACH_NLRI of a message ([`rule`](crate::rule)): none if it is kept,
+/// or of another type.
 pub fn deciding_test(ctx: &Context, tlv: &Tlv<'_>) -> Option<MpTest>
     ensures { result ≡ deciding_test ctx.now (tlv_value tlv.now) }
 {

@@ -1,4 +1,4 @@
-//! Routes of other address families that still lie in the octets that were read.
+//! Routes of other address families, borrowed from the octets read.
 
 ghost use Rattle.std.specs.Prelude.{◌≡◌, IfOk};
 

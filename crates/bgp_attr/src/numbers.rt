@@ -39,7 +39,7 @@ pub fn first_number(wide: bool, octets: &[u8]) -> Option<(u32, &[u8])>
     }
 }
 
-/// How many numbers octets begin with.
+/// The number of numbers that octets begin with.
 #[tactic(auto, using(crate::proofs::NumberSteps::number_count))]
 pub(crate) fn count_numbers(wide: bool, octets: &[u8]) -> usize
     ensures { result ≡ length (numbers_of wide octets.now) }
@@ -51,7 +51,7 @@ pub(crate) fn count_numbers(wide: bool, octets: &[u8]) -> usize
     }
 }
 
-/// The AS numbers of a segment, in order (RFC 4271, section 4.3). It takes no memory.
+/// The AS numbers of a segment, in order (RFC 4271, section 4.3). It allocates nothing.
 #[derive(Clone, Copy)]
 pub struct AsNumberIter<'a> {
     pub(crate) wide: bool,
@@ -64,7 +64,7 @@ impl<'a> AsNumberIter<'a> {
     ghost use Rattle.bgp_attr.specs.Path.{as_number};
     ghost use Rattle.bgp_attr.specs.NumberIter.{as_numbers_left};
 
-    /// The numbers of these octets, of four each where `wide`, else of two.
+    /// The numbers in these octets, of four each where `wide`, else of two.
     pub(crate) fn new(wide: bool, octets: &'a [u8]) -> AsNumberIter<'a>
         ensures { as_numbers_left result ≡ map as_number (numbers_of wide octets.now) }
     {
@@ -88,7 +88,7 @@ impl<'a> Iterator for AsNumberIter<'a> {
         Some(AsNumber(number))
     }
 
-    /// As many as there are: who collects them asks for that room at once.
+    /// Exactly the number left, so that a collection allocates once.
     fn size_hint(&self) -> (usize, Option<usize>) {
         let left = self.left();
         (left, Some(left))
@@ -97,7 +97,7 @@ impl<'a> Iterator for AsNumberIter<'a> {
 
 impl<'a> FusedIterator for AsNumberIter<'a> {}
 
-/// The communities of COMMUNITIES, in order (RFC 1997). It takes no memory.
+/// The communities of COMMUNITIES, in order (RFC 1997). It allocates nothing.
 #[derive(Clone, Copy)]
 pub struct CommIter<'a> {
     pub(crate) rest: &'a [u8],
@@ -108,7 +108,7 @@ impl<'a> CommIter<'a> {
     ghost use Rattle.bgp_attr.specs.Numbers.{numbers_of};
     ghost use Rattle.bgp_attr.specs.NumberIter.{communities_left};
 
-    /// The communities of these octets.
+    /// The communities in these octets.
     pub(crate) fn new(octets: &'a [u8]) -> CommIter<'a>
         ensures { communities_left result ≡ numbers_of true octets.now }
     {
@@ -132,7 +132,7 @@ impl<'a> Iterator for CommIter<'a> {
         Some(community)
     }
 
-    /// As many as there are.
+    /// Exactly the number left.
     fn size_hint(&self) -> (usize, Option<usize>) {
         let left = count_numbers(true, self.rest);
         (left, Some(left))

@@ -5,7 +5,7 @@ ghost use Rattle.std.specs.Prelude.{◌≡◌, IfOk};
 use bgp_wire::{List, TryCopy};
 use std::alloc::{AllocError, Global};
 
-/// An optional attribute of a type that isn't recognised: its value is kept as it is (RFC 4271, section 5).
+/// An optional attribute of a type that isn't recognised: its value is kept unchanged (RFC 4271, section 5).
 #[derive(Drop, PartialEq)]
 pub struct Opaque {
     /// The type.

@@ -6,7 +6,7 @@ use bgp_prefix::AsNumber;
 use bgp_wire::{List, TryCopy};
 use std::alloc::{AllocError, Global};
 
-/// What the numbers of a segment are (RFC 4271, section 4.3).
+/// The type of a segment (RFC 4271, section 4.3).
 #[derive(Clone, Copy, Debug, PartialEq, Eq)]
 pub enum SegKind {
     /// AS_SET: in no order.
@@ -15,7 +15,7 @@ pub enum SegKind {
     Seq = 2,
 }
 
-/// A part of a path (RFC 4271, section 4.3).
+/// A segment of a path (RFC 4271, section 4.3).
 #[derive(Drop, PartialEq)]
 pub struct Segment {
     /// Whether its numbers are in order.
@@ -46,7 +46,7 @@ impl TryCopy for Segment {
     }
 }
 
-/// AS_PATH: the systems that the route went through (RFC 4271, section 5.1.2).
+/// AS_PATH: the ASes that the route passed (RFC 4271, section 5.1.2).
 #[derive(Drop, PartialEq)]
 pub struct AsPath {
     /// The segments, the nearest first: possibly none.
@@ -66,7 +66,7 @@ impl AsPath {
     }
 }
 
-/// AS4_PATH: the path as speakers with AS numbers of four octets made it, passed on by others (RFC 6793, section 3).
+/// AS4_PATH: the path as speakers with AS numbers of four octets built it, passed on by others (RFC 6793, section 3).
 #[derive(Drop, PartialEq)]
 pub struct As4Path {
     /// The Partial bit.

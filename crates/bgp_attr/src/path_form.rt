@@ -1,6 +1,6 @@
-//! The two forms in which paths lie in octets.
+//! The two forms of paths in octets.
 
-/// How a path lies in octets (RFC 6793, sections 3 and 4).
+/// The form of a path in octets (RFC 6793, sections 3 and 4).
 #[derive(Clone, Copy, Debug, PartialEq, Eq)]
 pub struct PathForm {
     /// Its AS numbers have four octets, not two.

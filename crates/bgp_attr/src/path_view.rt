@@ -1,4 +1,4 @@
-//! Paths that still lie in the octets that were read.
+//! Paths borrowed from the octets read.
 
 ghost use Rattle.std.specs.Prelude.{◌≡◌, IfOk};
 ghost use Rattle.bgp_attr.specs.Path.{path_of};
@@ -48,7 +48,7 @@ pub struct PathView<'a> {
 impl<'a> PathView<'a> {
     ghost use Rattle.bgp_attr.specs.PathView.{path_value, segments_left};
 
-    /// The path that octets of this form hold.
+    /// The path in octets of this form.
     pub(crate) fn new(form: PathForm, octets: &'a [u8]) -> PathView<'a>
         ensures { path_value result ≡ path_of form octets.now }
     {
@@ -80,7 +80,7 @@ impl<'a> PathView<'a> {
     }
 }
 
-/// The segments of a path that are kept, the nearest first. It takes no memory.
+/// The segments of a path that are kept, the nearest first. It allocates nothing.
 #[derive(Clone, Copy)]
 pub struct SegmentIter<'a> {
     form: PathForm,

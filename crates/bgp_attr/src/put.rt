@@ -1,4 +1,4 @@
-//! Rows of numbers, segments and triples, written.
+//! Writing rows of numbers, segments and triples.
 
 ghost use Rattle.std.specs.Prelude.{◌≡◌, ◌<◌, ◌+◌, ◌≤◌, ℕ, List, ◌++◌, length, map, true, false, OnOk, OnErr};
 ghost use Rattle.std.specs.List.{flat_map, list_any, AllByRecursion};
@@ -11,7 +11,7 @@ use bgp_prefix::AsNumber;
 use bgp_wire::Output;
 use std::alloc::AllocError;
 
-/// Adds a number, of four octets where `wide`, else its last two.
+/// Appends a number, of four octets where `wide`, else its last two.
 pub(crate) fn put_number<O: Output>(wide: bool, number: u32, out: &mut O) -> Result<(), AllocError>
     ensures ok { OnOk result ((O.written out.new ≡ O.written out.old ++ number_octets wide number) × IsFourOctets number) }
     ensures err { OnErr result (Extends (O.written out.old) (O.written out.new) × (O.room < length (O.written out.old) + length (number_octets wide number))) }
@@ -24,7 +24,7 @@ pub(crate) fn put_number<O: Output>(wide: bool, number: u32, out: &mut O) -> Res
     }
 }
 
-/// Adds AS numbers.
+/// Appends AS numbers.
 fn put_as_numbers<O: Output>(
     wide: bool,
     numbers: &[AsNumber],
@@ -39,7 +39,7 @@ fn put_as_numbers<O: Output>(
     Ok(())
 }
 
-/// Adds numbers of four octets.
+/// Appends numbers of four octets.
 pub(crate) fn put_numbers<O: Output>(numbers: &[u32], out: &mut O) -> Result<(), AllocError>
     ensures ok { OnOk result ((O.written out.new ≡ O.written out.old ++ row_octets true numbers.now) × AllByRecursion IsFourOctets numbers.now) }
     ensures err { OnErr result (Extends (O.written out.old) (O.written out.new) × (O.room < length (O.written out.old) + length (row_octets true numbers.now))) }
@@ -50,7 +50,7 @@ pub(crate) fn put_numbers<O: Output>(numbers: &[u32], out: &mut O) -> Result<(),
     Ok(())
 }
 
-/// Adds a triple.
+/// Appends a triple.
 pub(crate) fn put_triple<O: Output>(triple: &[u32; 3], out: &mut O) -> Result<(), AllocError>
     ensures ok { OnOk result ((O.written out.new ≡ O.written out.old ++ triple_octets triple.now) × IsThreeNumbers triple.now) }
     ensures err { OnErr result (Extends (O.written out.old) (O.written out.new) × (O.room < length (O.written out.old) + length (triple_octets triple.now))) }
@@ -58,7 +58,7 @@ pub(crate) fn put_triple<O: Output>(triple: &[u32; 3], out: &mut O) -> Result<()
     put_numbers(triple, out)
 }
 
-/// Adds triples.
+/// Appends triples.
 pub(crate) fn put_triples<O: Output>(triples: &[[u32; 3]], out: &mut O) -> Result<(), AllocError>
     ensures ok { OnOk result ((O.written out.new ≡ O.written out.old ++ flat_map triple_octets triples.now) × AllByRecursion IsThreeNumbers triples.now) }
     ensures err { OnErr result (Extends (O.written out.old) (O.written out.new) × (O.room < length (O.written out.old) + length (flat_map triple_octets triples.now))) }
@@ -79,7 +79,7 @@ pub(crate) fn segment_code(kind: SegKind) -> u8
     }
 }
 
-/// Adds a segment.
+/// Appends a segment.
 fn put_segment<O: Output>(wide: bool, segment: &Segment, out: &mut O) -> Result<(), AllocError>
     requires { length segment.now.numbers ≤ 255 }
     ensures ok { OnOk result ((O.written out.new ≡ O.written out.old ++ segment_octets wide segment.now) × AllByRecursion (λ n. IsFourOctets n.0) segment.now.numbers) }
@@ -90,7 +90,7 @@ fn put_segment<O: Output>(wide: bool, segment: &Segment, out: &mut O) -> Result<
     put_as_numbers(wide, &segment.numbers, out)
 }
 
-/// Adds the segments of a path.
+/// Appends the segments of a path.
 pub(crate) fn put_path<O: Output>(
     wide: bool,
     segments: &[Segment],
@@ -106,7 +106,7 @@ pub(crate) fn put_path<O: Output>(
     Ok(())
 }
 
-/// Adds octets.
+/// Appends octets.
 pub(crate) fn put_octets<O: Output>(octets: &[u8], out: &mut O) -> Result<(), AllocError>
     ensures ok { OnOk result ((O.written out.new ≡ O.written out.old ++ octets.now) × AreOctets octets.now) }
     ensures err { OnErr result (Extends (O.written out.old) (O.written out.new) × (O.room < length (O.written out.old) + length octets.now)) }
@@ -114,7 +114,7 @@ pub(crate) fn put_octets<O: Output>(octets: &[u8], out: &mut O) -> Result<(), Al
     out.put(octets)
 }
 
-/// Adds an address.
+/// Appends an address.
 pub(crate) fn put_address<const N: usize, O: Output>(
     addr: &[u8; N],
     out: &mut O,

@@ -1,4 +1,4 @@
-//! Writing the values of attributes from the octets that they lie in, with no list between.
+//! Writing the values of attributes from borrowed octets, with no list between.
 
 ghost use Rattle.std.specs.Prelude.{◌≡◌, ◌<◌, ◌≤◌, ◌+◌, ◌-◌, ◌%◌, ◌++◌, false, true, length, OnOk, OnErr};
 ghost use Rattle.std.specs.List.{flat_map, list_any};
@@ -17,7 +17,7 @@ use bgp_prefix::PrefixIter;
 use bgp_wire::Output;
 use std::alloc::AllocError;
 
-/// Adds the numbers of four octets that octets begin with: these octets.
+/// Appends the numbers of four octets that octets begin with: these octets.
 fn put_fours<O: Output>(octets: &[u8], out: &mut O) -> Result<(), AllocError>
     ensures ok { OnOk result (O.written out.new ≡ O.written out.old ++ row_octets true (numbers_of true octets.now)) }
     ensures err { OnErr result (Extends (O.written out.old) (O.written out.new) × (O.room < length (O.written out.old) + length (row_octets true (numbers_of true octets.now)))) }
@@ -26,7 +26,7 @@ fn put_fours<O: Output>(octets: &[u8], out: &mut O) -> Result<(), AllocError>
     put_octets(&octets[..whole], out)
 }
 
-/// Adds AS numbers one by one.
+/// Appends AS numbers one by one.
 fn put_each_number<O: Output>(
     wide: bool,
     numbers: AsNumberIter<'_>,
@@ -41,7 +41,7 @@ fn put_each_number<O: Output>(
     Ok(())
 }
 
-/// Adds AS numbers.
+/// Appends AS numbers.
 fn put_as_numbers<O: Output>(
     wide: bool,
     numbers: AsNumberIter<'_>,
@@ -57,7 +57,7 @@ fn put_as_numbers<O: Output>(
     }
 }
 
-/// Adds a segment.
+/// Appends a segment.
 fn put_segment<O: Output>(
     wide: bool,
     segment: SegmentView<'_>,
@@ -72,7 +72,7 @@ fn put_segment<O: Output>(
     put_as_numbers(wide, segment.numbers, out)
 }
 
-/// Adds the segments of a path.
+/// Appends the segments of a path.
 pub(crate) fn put_path<O: Output>(
     wide: bool,
     path: PathView<'_>,
@@ -88,7 +88,7 @@ pub(crate) fn put_path<O: Output>(
     Ok(())
 }
 
-/// Adds communities.
+/// Appends communities.
 pub(crate) fn put_communities<O: Output>(
     values: CommIter<'_>,
     out: &mut O,
@@ -99,7 +99,7 @@ pub(crate) fn put_communities<O: Output>(
     put_fours(values.rest, out)
 }
 
-/// Adds large communities.
+/// Appends large communities.
 pub(crate) fn put_large<O: Output>(values: LargeCommIter<'_>, out: &mut O) -> Result<(), AllocError>
     ensures ok { OnOk result (O.written out.new ≡ O.written out.old ++ flat_map triple_octets (triples_left values.entry)) }
     ensures err { OnErr result (Extends (O.written out.old) (O.written out.new) × (O.room < length (O.written out.old) + length (flat_map triple_octets (triples_left values.entry)))) }
@@ -110,7 +110,7 @@ pub(crate) fn put_large<O: Output>(values: LargeCommIter<'_>, out: &mut O) -> Re
     Ok(())
 }
 
-/// Adds a family, a next hop of one or two addresses, and prefixes.
+/// Appends a family, a next hop of one or two addresses, and prefixes.
 fn put_reach_row<const W: usize, O: Output>(
     family: u16,
     hop: &[u8],
@@ -126,7 +126,7 @@ fn put_reach_row<const W: usize, O: Output>(
     routes.write(out)
 }
 
-/// Adds MP_REACH_NLRI's value.
+/// Appends MP_REACH_NLRI's value.
 pub(crate) fn put_reach<O: Output>(reach: &MpReachView<'_>, out: &mut O) -> Result<(), AllocError>
     ensures ok { OnOk result (O.written out.new ≡ O.written out.old ++ reach_octets (reach_value reach.now)) }
     ensures err { OnErr result (Extends (O.written out.old) (O.written out.new) × (O.room < length (O.written out.old) + length (reach_octets (reach_value reach.now)))) }
@@ -154,7 +154,7 @@ pub(crate) fn put_reach<O: Output>(reach: &MpReachView<'_>, out: &mut O) -> Resu
     }
 }
 
-/// Adds a family and prefixes.
+/// Appends a family and prefixes.
 fn put_unreach_row<const W: usize, O: Output>(
     family: u16,
     routes: PrefixIter<'_, W>,
@@ -168,7 +168,7 @@ fn put_unreach_row<const W: usize, O: Output>(
     routes.write(out)
 }
 
-/// Adds MP_UNREACH_NLRI's value.
+/// Appends MP_UNREACH_NLRI's value.
 pub(crate) fn put_unreach<O: Output>(
     unreach: &MpUnreachView<'_>,
     out: &mut O,

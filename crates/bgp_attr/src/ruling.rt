@@ -1,4 +1,4 @@
-//! How one attribute is judged, apart from its value.
+//! The judgement of one attribute, without its value.
 
 ghost use Rattle.std.specs.Prelude.{◌≡◌, ◌≤◌, length};
 ghost use Rattle.bgp_frame.specs.Prelude.{notification_of_view};
@@ -8,20 +8,20 @@ use crate::why::Why;
 use bgp_frame::NotificationView;
 use bgp_numbers::error::{MALFORMED_ATTRIBUTE_LIST, UPDATE_MESSAGE};
 
-/// How one attribute is judged (RFC 7606, section 2), apart from its value, in two octets: an UPDATE is judged by these.
+/// The judgement of one attribute (RFC 7606, section 2), without its value, in two octets: an UPDATE is judged by these.
 #[derive(Clone, Copy)]
 pub enum Ruling {
     /// It is kept.
     Keep,
-    /// It is dropped, and the message goes on without it.
+    /// It is discarded (attribute discard).
     Discard(Why),
     /// Its message is treated as a withdrawal (treat-as-withdraw).
     Withdraw(Why),
-    /// The session ends with a notification of code 3 and this subcode ([`attribute_reset`]).
+    /// The session ends with a NOTIFICATION of code 3 and this subcode ([`attribute_reset`]).
     Reset(u8),
 }
 
-/// The reset of code 3 and this subcode by an attribute, with the whole attribute as it was received; a malformed list of attributes has no information
+/// The reset of code 3 and this subcode by an attribute, with the whole attribute as it was received; a malformed list of attributes has no data
 /// (RFC 4271, section 6.3).
 #[inline(never)]
 pub fn attribute_reset(subcode: u8, whole: &[u8]) -> NotificationView<'_>

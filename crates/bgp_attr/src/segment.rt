@@ -1,4 +1,4 @@
-//! Segments of a path as they lie in octets.
+//! Segments of a path in octets.
 
 ghost use Rattle.std.specs.Prelude.{◌≡◌, ◌==◌, Some, option_map};
 ghost use Rattle.std.specs.Option.{option_or};
@@ -12,7 +12,7 @@ use crate::path_form::PathForm;
 use crate::why::Why;
 use bgp_numbers::segment;
 
-/// A segment of any known type, as it lies in octets (RFC 4271, section 4.3).
+/// A segment of any known type, in octets (RFC 4271, section 4.3).
 #[derive(Clone, Copy)]
 pub struct RawSegment<'a> {
     /// The type.
@@ -21,7 +21,7 @@ pub struct RawSegment<'a> {
     pub numbers: &'a [u8],
 }
 
-/// The octets of an AS number.
+/// The width of an AS number in octets.
 pub(crate) fn number_width(wide: bool) -> usize
     ensures { result ≡ number_width wide }
 {
@@ -39,7 +39,7 @@ fn is_known(form: PathForm, code: u8) -> bool
     }
 }
 
-/// What is kept of segments of this type: None for those of confederations.
+/// The kind of a segment of this type: None for those of confederations, which are dropped.
 pub(crate) fn kind_of(code: u8) -> Option<SegKind>
     ensures { result ≡ kind_of_segment code }
 {
@@ -71,7 +71,7 @@ pub fn first_segment(form: PathForm, octets: &[u8]) -> Option<(RawSegment<'_>, &
     Some((raw, rest))
 }
 
-/// Why no segment stands at the front of what is left.
+/// Why no segment is at the front of what is left.
 fn segment_fault(form: PathForm, rest: &[u8]) -> Option<Why>
     ensures { result ≡ segment_fault form rest.now }
 {
@@ -109,7 +109,7 @@ fn path_fault(form: PathForm, octets: &[u8]) -> Option<Why>
     segment_fault(form, rest)
 }
 
-/// Why a path is malformed in which an AS number 0 stands before these octets, which is rare.
+/// Why a path is malformed that has an AS number 0 before these octets, which is rare.
 #[inline(never)]
 fn why_behind_zero(form: PathForm, octets: &[u8]) -> Option<Why>
     ensures { result ≡ option_or (path_fault form octets.now) (Some why.AsZero) }

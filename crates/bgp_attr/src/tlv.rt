@@ -1,4 +1,4 @@
-//! Attributes as they lie in octets.
+//! Attributes in octets.
 
 ghost use Rattle.std.specs.Prelude.{◌≡◌};
 ghost use Rattle.bgp_attr.specs.Tlv.{tlv_octets};
@@ -22,11 +22,11 @@ pub struct Tlv<'a> {
     pub ghost spelled: { whole.now ≡ tlv_octets flags.0 kind value.now },
 }
 
-/// What stands behind the last whole attribute of a field.
+/// What follows the last whole attribute of a field.
 #[derive(Clone, Copy, PartialEq, Eq)]
 pub enum Tail<'a> {
     /// Nothing: the field ends there.
     End,
-    /// Octets that begin an attribute, and end before it does.
+    /// Octets that begin an attribute but end before it does.
     Cut(&'a [u8]),
 }

@@ -6,7 +6,7 @@ use crate::first_tlv::{first_tlv, skip_tlvs};
 use crate::tlv::{Tail, Tlv};
 use std::iter::FusedIterator;
 
-/// The attributes that a field begins with, each whole, up to its end or to one that is cut off. It takes no memory.
+/// The attributes that a field begins with, each whole, up to its end or to one that is cut off. It allocates nothing.
 #[derive(Clone, Copy)]
 pub struct TlvIter<'a> {
     field: &'a [u8],
@@ -29,7 +29,7 @@ impl<'a> TlvIter<'a> {
         TlvIter { field, at: 0 }
     }
 
-    /// What stands behind the last attribute: the same, however many have been given.
+    /// What follows the last attribute: the same, however many have been returned.
     #[inline(always)]
     pub fn tail(&self) -> Tail<'a>
         ensures { IsTail (rest_left self.now) result }

@@ -23,7 +23,7 @@ pub enum Unwritable {
     Recognised,
     /// An AS number 0 (RFC 7607, section 2).
     AsZero,
-    /// A large community that stands twice (RFC 8092, section 3).
+    /// A large community that is there twice (RFC 8092, section 3).
     Twice,
     /// A value of more than 65535 octets, which no length field can hold (RFC 4271, section 4.3).
     TooLong,
@@ -57,7 +57,7 @@ fn is_zero_path(path: &AsPath) -> bool
     path.segments.iter().any(|segment| has_zero_number(segment))
 }
 
-/// Whether an AS number needs more octets than it has.
+/// Whether an AS number doesn't fit its two octets.
 pub fn is_too_wide(ctx: &Context, attr: AttrRef<'_>) -> bool
     ensures { result ≡ is_too_wide ctx.now (ref_value attr.entry) }
 {
@@ -92,7 +92,7 @@ fn has_bad_segment(path: &AsPath) -> bool
     path.segments.iter().any(|segment| is_bad_segment(segment))
 }
 
-/// Whether nothing stands where something has to: a segment of no numbers (or of more than 255), no communities, an AS4_PATH of nothing.
+/// Whether something is empty that mustn't be: a segment of no numbers (or of more than 255), no communities, an AS4_PATH of nothing.
 pub fn is_empty(attr: AttrRef<'_>) -> bool
     ensures { result ≡ is_empty (ref_value attr.entry) }
 {
@@ -105,7 +105,7 @@ pub fn is_empty(attr: AttrRef<'_>) -> bool
     }
 }
 
-/// Whether the attribute has the type of another.
+/// Whether an `Opaque` has a type that is recognised.
 pub fn is_misnamed(attr: AttrRef<'_>) -> bool
     ensures { result ≡ is_misnamed (ref_value attr.entry) }
 {
@@ -135,7 +135,7 @@ fn is_among(triple: &[u32; 3], others: &[[u32; 3]]) -> bool
     others.iter().any(|other| is_same(triple, other))
 }
 
-/// Whether a triple stands among those behind it too.
+/// Whether a triple is also among those after it.
 fn repeats(values: &[[u32; 3]]) -> bool
     ensures { result ≡ repeats values.now }
 {
@@ -149,7 +149,7 @@ fn repeats(values: &[[u32; 3]]) -> bool
     false
 }
 
-/// Whether a large community stands twice.
+/// Whether a large community is there twice.
 pub fn stands_twice(attr: AttrRef<'_>) -> bool
     ensures { result ≡ stands_twice (ref_value attr.entry) }
 {

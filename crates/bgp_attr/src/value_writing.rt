@@ -32,7 +32,7 @@ pub(crate) fn flags_octet(class: Class, partial: bool, extended: bool) -> u8
     64 * (class as u8) + (partial_bit + extended_bit)
 }
 
-/// Adds an AS number and an address.
+/// Appends an AS number and an address.
 pub(crate) fn put_aggregator<O: Output>(
     wide: bool,
     aggregator: &Aggregator,
@@ -46,7 +46,7 @@ pub(crate) fn put_aggregator<O: Output>(
     put_address(&addr, out)
 }
 
-/// Adds a family and a next hop of one or two addresses: all that stands before the prefixes.
+/// Appends a family and a next hop of one or two addresses: all that precedes the prefixes.
 pub(crate) fn put_hops<O: Output>(
     family: u16,
     hop: &[u8],
@@ -65,7 +65,7 @@ pub(crate) fn put_hops<O: Output>(
     put_octets(&[0], out)
 }
 
-/// Adds a family, a next hop of one or two addresses, and prefixes.
+/// Appends a family, a next hop of one or two addresses, and prefixes.
 fn put_reach_row<const W: usize, O: Output>(
     family: u16,
     hop: &[u8],
@@ -91,7 +91,7 @@ pub(crate) fn address_octets<const N: usize>(addr: &[u8; N]) -> &[u8]
     addr.as_slice()
 }
 
-/// Adds MP_REACH_NLRI's value.
+/// Appends MP_REACH_NLRI's value.
 fn put_reach<O: Output>(reach: &MpReach, out: &mut O) -> Result<(), AllocError>
     ensures ok { OnOk result ((O.written out.new ≡ O.written out.old ++ reach_octets reach.now) × HasRanges (attr.MpReach reach.now)) }
     ensures err { OnErr result (Extends (O.written out.old) (O.written out.new) × (O.room < length (O.written out.old) + length (reach_octets reach.now))) }
@@ -121,7 +121,7 @@ fn put_reach<O: Output>(reach: &MpReach, out: &mut O) -> Result<(), AllocError>
     }
 }
 
-/// Adds a family and prefixes.
+/// Appends a family and prefixes.
 fn put_unreach_row<const W: usize, O: Output>(
     family: u16,
     routes: &[Prefix<W>],
@@ -136,7 +136,7 @@ fn put_unreach_row<const W: usize, O: Output>(
     write_run(routes, out)
 }
 
-/// Adds MP_UNREACH_NLRI's value.
+/// Appends MP_UNREACH_NLRI's value.
 fn put_unreach<O: Output>(unreach: &MpUnreach, out: &mut O) -> Result<(), AllocError>
     ensures ok { OnOk result ((O.written out.new ≡ O.written out.old ++ unreach_octets unreach.now) × HasRanges (attr.MpUnreach unreach.now)) }
     ensures err { OnErr result (Extends (O.written out.old) (O.written out.new) × (O.room < length (O.written out.old) + length (unreach_octets unreach.now))) }
@@ -147,17 +147,17 @@ fn put_unreach<O: Output>(unreach: &MpUnreach, out: &mut O) -> Result<(), AllocE
     }
 }
 
-/// Adds the value of an attribute that isn't recognised.
+/// Appends the value of an attribute that isn't recognised.
 fn put_opaque<O: Output>(opaque: &Opaque, out: &mut O) -> Result<(), AllocError>
     ensures ok { OnOk result ((O.written out.new ≡ O.written out.old ++ opaque.now.value) × HasRanges (attr.Opaque opaque.now)) }
     ensures err { OnErr result (Extends (O.written out.old) (O.written out.new) × (O.room < length (O.written out.old) + length opaque.now.value)) }
 {
-    // The type is read for its range alone.
+    // The type is read only to prove its range.
     let _kind = opaque.kind;
     put_octets(&opaque.value, out)
 }
 
-/// Adds the value of an attribute.
+/// Appends the value of an attribute.
 pub(crate) fn put_value<O: Output>(
     ctx: &Context,
     attr: AttrRef<'_>,
@@ -184,7 +184,7 @@ pub(crate) fn put_value<O: Output>(
     }
 }
 
-/// Adds the value of an attribute from its view.
+/// Appends the value of an attribute from its view.
 #[inline(always)]
 pub(crate) fn put_view_value<O: Output>(
     ctx: &Context,

@@ -11,7 +11,7 @@ use bgp_open::Context;
 use bgp_wire::Output;
 use std::alloc::AllocError;
 
-/// Adds an attribute; a part of it may stay where there was no room.
+/// Appends an attribute; after an error a part of it may remain.
 #[inline(always)]
 fn put_attr<O: Output>(ctx: &Context, view: &AttrView<'_>, out: &mut O) -> Result<(), AllocError>
     requires filled { is_empty (attr_value view.now) ≡ false }
@@ -25,11 +25,11 @@ fn put_attr<O: Output>(ctx: &Context, view: &AttrView<'_>, out: &mut O) -> Resul
     finish_attr(view, start, out)
 }
 
-/// Adds the one written form of an attribute, as [`write_attr`](crate::write_attr) does, from its view: no list of what it holds is made, and it
+/// Appends the one written form of an attribute, as [`write_attr`](crate::write_attr) does, from its view: no lists are made, and it
 /// isn't measured.
 ///
 /// # Errors
-/// `AllocError` where there was no room; what is there is then as it was.
+/// `AllocError` where there was no room; what was written before is then as it was.
 #[inline(always)]
 pub fn write_attr_view<O: Output>(
     ctx: &Context,

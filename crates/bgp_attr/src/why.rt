@@ -5,7 +5,7 @@
 pub enum Why {
     /// The Optional or the Transitive bit isn't that of the type.
     Flags,
-    /// The value isn't as long as its type asks.
+    /// The length of the value is wrong for its type.
     Length,
     /// The value has no meaning.
     Value,
@@ -15,7 +15,7 @@ pub enum Why {
     SegmentCount,
     /// A segment of a path goes past the end of the value.
     SegmentEnd,
-    /// An attribute of the type stands before it.
+    /// An attribute of the type precedes it.
     Repeated,
     /// LOCAL_PREF on an external session.
     External,
@@ -23,13 +23,13 @@ pub enum Why {
     FourOctet,
     /// Routes of an address family that isn't in use.
     Family,
-    /// NEXT_HOP without NLRI that it could serve.
+    /// NEXT_HOP without NLRI.
     Unneeded,
     /// An AS4_PATH of which nothing is left.
     Emptied,
     /// The attribute goes past the end of the attributes.
     Cut,
-    /// No attribute of the type is there.
+    /// No attribute of the type is in the message.
     Missing,
     /// An AS number 0 (RFC 7607).
     AsZero,

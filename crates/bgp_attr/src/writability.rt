@@ -11,14 +11,14 @@ use crate::value_writing::put_value;
 use bgp_open::Context;
 use bgp_wire::Counter;
 
-/// Whether no length field can hold the length of the value: it is written where there is room for as much.
+/// Whether no length field can hold the length of the value: it is written to a counter with room for that length.
 fn is_too_long(ctx: &Context, attr: AttrRef<'_>) -> bool
     requires { is_empty (ref_value attr) ≡ false }
     ensures { result ≡ is_too_long ctx.now (ref_value attr.entry) }
 {
     let mut counter: Counter<65535> = Counter::new();
     let written = put_value(ctx, attr, &mut counter);
-    // At most as many are counted.
+    // For the proof: at most 65535 octets were counted.
     let _ = counter.count();
     written.is_err()
 }

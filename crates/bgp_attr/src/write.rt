@@ -13,7 +13,7 @@ use bgp_open::Context;
 use bgp_wire::Output;
 use std::alloc::AllocError;
 
-/// Adds an attribute; a part of it may stay where there was no room.
+/// Appends an attribute; after an error a part of it may remain.
 fn append_attr<O: Output>(ctx: &Context, attr: AttrRef<'_>, out: &mut O) -> Result<(), AllocError>
     requires filled { is_empty (ref_value attr) ≡ false }
     requires room { O.room ≤ 65535 }
@@ -29,11 +29,11 @@ fn append_attr<O: Output>(ctx: &Context, attr: AttrRef<'_>, out: &mut O) -> Resu
     finish(form_of(attr), start, out)
 }
 
-/// Adds the one written form of an attribute, as [`write_attr_ref`] does, to what has no more room than a length field can tell. To measure an
-/// attribute is to add it to a [`Counter`](bgp_wire::Counter).
+/// Appends the one written form of an attribute, as [`write_attr_ref`] does, to an output whose room is at most 65535. To measure an
+/// attribute, append it to a [`Counter`](bgp_wire::Counter).
 ///
 /// # Errors
-/// `AllocError` where there was no room, or no length field can hold the length of the value; what is there is then as it was.
+/// `AllocError` where there was no room, or no length field can hold the length of the value; what was written before is then as it was.
 pub fn put_attr<O: Output>(ctx: &Context, attr: AttrRef<'_>, out: &mut O) -> Result<(), AllocError>
     requires filled { is_empty (ref_value attr) ≡ false }
     requires room { O.room ≤ 65535 }
@@ -50,14 +50,14 @@ pub fn put_attr<O: Output>(ctx: &Context, attr: AttrRef<'_>, out: &mut O) -> Res
     written
 }
 
-/// Adds the one written form of an attribute: the shortest length, and 0 for all that is ignored.
+/// Appends the one written form of an attribute: the shortest length, and 0 for all that is ignored.
 ///
 /// # Errors
 /// `AllocError` where an allocation failed; the vector is then as it was.
 pub fn write_attr_ref(ctx: &Context, attr: AttrRef<'_>, out: &mut Vec<u8>) -> Result<(), AllocError>
     requires { is_writable ctx.now (ref_value attr) ≡ true }
     ensures ok { OnOk result (out.new.items ≡ out.old.items ++ canonical ctx.now (ref_value attr.entry)) }
-    // Where it belongs, it is read as itself.
+    // Where it belongs, it is read back unchanged.
     ensures kept { OnOk result ((has_nlri : Bool) → Belongs ctx.now has_nlri (ref_value attr.entry)
         → judgement ctx.now has_nlri (written_tlv ctx.now (ref_value attr.entry)) ≡ judged.Keep (ref_value attr.entry)) }
     ensures ranges { OnOk result (HasRanges (ref_value attr.entry)) }
@@ -66,14 +66,14 @@ pub fn write_attr_ref(ctx: &Context, attr: AttrRef<'_>, out: &mut Vec<u8>) -> Re
     put_attr(ctx, attr, out)
 }
 
-/// Adds the one written form of an attribute, as [`write_attr_ref`] does.
+/// Appends the one written form of an attribute, as [`write_attr_ref`] does.
 ///
 /// # Errors
 /// `AllocError` where an allocation failed; the vector is then as it was.
 pub fn write_attr(ctx: &Context, attr: &Attr, out: &mut Vec<u8>) -> Result<(), AllocError>
     requires { is_writable ctx.now attr.now ≡ true }
     ensures ok { OnOk result (out.new.items ≡ out.old.items ++ canonical ctx.now attr.now) }
-    // Where it belongs, it is read as itself.
+    // Where it belongs, it is read back unchanged.
     ensures kept { OnOk result ((has_nlri : Bool) → Belongs ctx.now has_nlri attr.now
         → judgement ctx.now has_nlri (written_tlv ctx.now attr.now) ≡ judged.Keep attr.now) }
     ensures err { OnErr result (out.new.items ≡ out.old.items) }

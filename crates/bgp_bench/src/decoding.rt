@@ -67,7 +67,7 @@ impl See for Tally {
     }
 }
 
-/// Decodes the stream so many times, and prints the counts of one time.
+/// Decodes the stream `rounds` times, and prints the counts of one round.
 pub(crate) fn run(rt: &(impl Print + AllocGlobal), octets: &[u8], rounds: u32) -> io::Result<()> {
     let mut tally = Tally::new();
     for _round in 0..rounds {

@@ -6,10 +6,10 @@ use bgp_update::WriteFault;
 use std::alloc::{AllocError, Global};
 use std::io;
 
-/// How many messages are kept. Each has room for 4 KB: of more of them, the cache would be measured.
+/// How many messages are kept. Each has room for 4 KB: with more of them, the cache would be measured.
 const RING: usize = 500;
 
-/// The first messages that are accepted, and how many there are in the stream.
+/// The first messages that are accepted, and their number in the stream.
 #[derive(Drop)]
 struct Kept {
     messages: Vec<Message>,
@@ -28,7 +28,7 @@ impl See for Kept {
     }
 }
 
-/// How many messages were written, and their octets.
+/// The number of messages written, and of their octets.
 #[derive(Clone, Copy)]
 struct Written {
     messages: u64,
@@ -64,7 +64,7 @@ impl Written {
     }
 }
 
-/// Writes as many messages as the stream has: those that are kept, again and again.
+/// Writes the number of messages that the stream has: those that are kept, again and again.
 fn encode_round(kept: &Kept, buffer: &mut Vec<u8>) -> Result<Written, AllocError> {
     let mut written = Written::none();
     for _ring in 0..kept.count / RING {
@@ -75,7 +75,7 @@ fn encode_round(kept: &Kept, buffer: &mut Vec<u8>) -> Result<Written, AllocError
     Ok(written)
 }
 
-/// Encodes so many times as many messages as are accepted in the stream, and prints the counts of one time.
+/// Encodes, `rounds` times, the number of messages accepted in the stream, and prints the counts of one round.
 pub(crate) fn run(rt: &(impl Print + AllocGlobal), octets: &[u8], rounds: u32) -> io::Result<()> {
     let mut kept = Kept {
         messages: Vec::new(rt.alloc()),

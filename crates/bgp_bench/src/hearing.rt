@@ -1,4 +1,4 @@
-//! A session that hears a stream.
+//! A session that receives a stream.
 
 ghost use Rattle.std.specs.Prelude.{◌≤◌, length, IfSome};
 
@@ -13,7 +13,7 @@ use bgp_update::{Routes, Update, UpdateView};
 use std::alloc::{AllocError, Global};
 use std::io;
 
-/// What a session wants done: actions in number, and the routes that they announce and withdraw.
+/// What a session wants done: the number of actions, and of the routes that they announce and withdraw.
 #[derive(Clone, Copy)]
 struct Heard {
     actions: u64,
@@ -21,12 +21,12 @@ struct Heard {
     withdrawn: u64,
 }
 
-/// How a session is let hear.
+/// How a session receives.
 #[derive(Clone, Copy)]
 pub(crate) enum By {
     /// By sets of its own.
     Sets,
-    /// By way of one set of actions.
+    /// By one set of actions, reused.
     OneSet,
     /// By views, without memory.
     Views,
@@ -109,7 +109,7 @@ impl Heard {
     }
 }
 
-/// Lets the session hear a piece.
+/// Passes a piece to the session.
 #[tactic(auto, using(crate::proofs::Taken::session_takes_within))]
 fn hear_piece(
     alloc: Global,
@@ -134,7 +134,7 @@ fn hear_piece(
     Ok(())
 }
 
-/// Lets the session hear a piece, by way of one set of actions.
+/// Passes a piece to the session, by one set of actions.
 #[tactic(auto, using(crate::proofs::Taken::session_takes_within))]
 fn hear_piece_into(
     alloc: Global,
@@ -157,7 +157,7 @@ fn hear_piece_into(
     Ok(())
 }
 
-/// Counts what is heard of a piece, by views, and lets the session go on. Answers how many octets that takes.
+/// Counts what is received of a piece, by views, and continues the session. Answers the number of octets consumed.
 #[inline(always)]
 fn view_next(session: &mut Session, piece: &[u8], heard: &mut Heard) -> Option<usize>
     ensures { IfSome result (λ taken. taken ≤ length piece.now) }
@@ -174,7 +174,7 @@ fn view_next(session: &mut Session, piece: &[u8], heard: &mut Heard) -> Option<u
     Some(taken)
 }
 
-/// Lets the session hear a piece, by views.
+/// Passes a piece to the session, by views.
 fn hear_piece_by_views(session: &mut Session, piece: &[u8], heard: &mut Heard) {
     let mut rest = piece;
     for _turn in 0..u64::MAX {
@@ -192,7 +192,7 @@ fn hear_piece_by_views(session: &mut Session, piece: &[u8], heard: &mut Heard) {
     }
 }
 
-/// A session of AS 65002 that is Established with AS 65001. Both offer AS numbers of four octets, IPv4 and IPv6.
+/// A session of AS 65002 that is Established with AS 65001. Both offer 4-octet AS numbers, IPv4 and IPv6.
 fn established(alloc: Global) -> Result<Session, AllocError> {
     let own = Config::new(65002, 65001, [192, 0, 2, 2], 90, true, true, true).unwrap();
     let peer = Config::new(65001, 65002, [192, 0, 2, 1], 90, true, true, true).unwrap();
@@ -205,7 +205,7 @@ fn established(alloc: Global) -> Result<Session, AllocError> {
     Ok(session)
 }
 
-/// Lets the session hear the stream, piece by piece.
+/// Passes the stream to the session, piece by piece.
 fn hear_stream(
     alloc: Global,
     session: &mut Session,
@@ -224,7 +224,7 @@ fn hear_stream(
     Ok(())
 }
 
-/// Lets an Established session hear the stream, and answers where it stands then, and the counts.
+/// Passes the stream to an Established session, and answers its state after it, and the counts.
 fn hear_round(
     alloc: Global,
     octets: &[u8],
@@ -237,7 +237,8 @@ fn hear_round(
     Ok((session.state(), heard))
 }
 
-/// Lets an Established session hear the stream so many times, and prints the counts of one time, and where the session stood then.
+/// Passes the stream to an Established session `rounds` times, and prints the counts of one round, and the session's
+/// state after it.
 pub(crate) fn run(
     rt: &(impl Print + AllocGlobal),
     octets: &[u8],

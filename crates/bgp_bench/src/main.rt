@@ -16,14 +16,14 @@ use std::io::Read;
 use std::process::ExitCode;
 use std::{env, io};
 
-/// The status of words that ask for nothing that it does, of an allocation that failed, and of a read or a write that failed.
+/// The status of a bad command line, of an allocation that failed, and of a read or a write that failed.
 const MISUSE: u8 = 2;
 
 const MEMORY: u8 = 3;
 
 const IO: u8 = 4;
 
-/// What the words behind the program's name ask for.
+/// What the words after the program's name ask for.
 fn asked(rt: &HostRuntime) -> io::Result<Option<Request>> {
     let words: Vec<String> = env::args(rt)?.skip(1).collect(rt.alloc())?;
     let words: Vec<&str> = words.iter().map(|word| word.as_str()).collect(rt.alloc())?;
@@ -45,7 +45,7 @@ fn work(rt: &HostRuntime, request: Request) -> io::Result<()> {
     }
 }
 
-/// Does what the words ask for, and answers the status.
+/// Does what the command line asks for, and answers the status.
 fn run(rt: &HostRuntime) -> io::Result<u8> {
     match asked(rt)? {
         Some(request) => {

@@ -1,4 +1,4 @@
-//! Owns the UPDATEs of a stream by way of their views: no outcome is built on the way.
+//! Owns the UPDATEs of a stream by their views, without building outcomes.
 
 ghost use Rattle.std.specs.Prelude.{◌≡◌, IfOk, IfSome};
 
@@ -8,7 +8,7 @@ use bgp_update::UpdateView;
 use std::alloc::{AllocError, Global};
 use std::io;
 
-/// How many messages and routes there were.
+/// The number of messages and of routes.
 #[derive(Clone, Copy)]
 struct Owned {
     messages: u64,
@@ -27,7 +27,7 @@ impl Owned {
         self.routes = self.routes.saturating_add(count as u64);
     }
 
-    /// Owns the outcome of a message, and lets go of it.
+    /// Owns the outcome of a message, and drops it.
     fn own(&mut self, alloc: Global, outcome: &OutcomeView<'_>) -> Result<(), AllocError> {
         self.messages = self.messages.saturating_add(1);
         match outcome {
@@ -56,7 +56,8 @@ impl Owned {
         Ok(())
     }
 
-    /// Owns what is held, or stands at the front of a piece. Answers how many octets of the piece that takes, and where the decoder goes on.
+    /// Owns what is held, or what a piece begins with. Answers the number of octets of the piece consumed, and where
+    /// the decoder continues.
     fn own_next(
         &mut self,
         alloc: Global,
@@ -76,7 +77,8 @@ impl Owned {
         }
     }
 
-    /// Takes what is held, or stands at the front of a piece. Answers how many octets of the piece that took, where there was something.
+    /// Consumes what is held, or what a piece begins with. Answers the number of octets of the piece consumed, where
+    /// there was something.
     fn step(
         &mut self,
         alloc: Global,
@@ -118,7 +120,7 @@ fn own_piece(
     Ok(())
 }
 
-/// Owns the stream's messages so many times, and prints the counts of one time.
+/// Owns the stream's messages `rounds` times, and prints the counts of one round.
 pub(crate) fn run(rt: &(impl Print + AllocGlobal), octets: &[u8], rounds: u32) -> io::Result<()> {
     let mut owned = Owned::none();
     for _round in 0..rounds {

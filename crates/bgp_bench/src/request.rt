@@ -5,21 +5,21 @@
 pub(crate) enum Work {
     /// Its messages are decoded.
     Decode,
-    /// Its messages are judged where they stand.
+    /// Its messages are judged in place.
     View,
-    /// Its messages are owned by way of their views.
+    /// Its messages are owned by their views.
     Own,
     /// Its messages are decoded once, and encoded.
     Encode,
-    /// A session hears it.
+    /// A session receives it.
     Session,
-    /// A session hears it, and puts what is to be done into one set of actions.
+    /// A session receives it, and writes what is to be done into one set of actions.
     SessionInto,
-    /// A session hears it by views.
+    /// A session receives it by views.
     SessionView,
 }
 
-/// What is done, and how many times.
+/// The work, and the number of rounds.
 #[derive(Clone, Copy)]
 pub(crate) struct Request {
     pub(crate) work: Work,
@@ -42,7 +42,7 @@ impl Work {
 }
 
 impl Request {
-    /// What these words ask for: the work, and behind it the rounds, which are one where nothing is said.
+    /// What these words ask for: the work, and after it the rounds, by default one.
     pub(crate) fn parse(words: &[&str]) -> Option<Request> {
         let (work, rounds) = match words.len() {
             1 => (words[0], 1),

@@ -4,7 +4,7 @@ use bgp_msg::{Decoder, Outcome};
 use bgp_open::Context;
 use std::alloc::{AllocError, Global};
 
-/// How many octets a piece has.
+/// The length of a piece.
 pub(crate) const PIECE: usize = 65536;
 
 /// What the speakers of the stream agreed on.
@@ -16,13 +16,14 @@ pub(crate) const CONTEXT: Context = Context {
     hold: 90,
 };
 
-/// Who is shown the outcomes of a stream's messages.
+/// A visitor of the outcomes of a stream's messages.
 pub(crate) trait See {
-    /// Sees the outcome of a message of so many octets.
+    /// Visits the outcome of a message of length `len`.
     fn see(&mut self, alloc: Global, len: u16, outcome: &Outcome) -> Result<(), AllocError>;
 }
 
-/// Shows the outcome of what is held, or stands at the front of a piece. Answers how many octets of the piece that took, where there was something.
+/// Visits the outcome of what is held, or of what a piece begins with. Answers the number of octets of the piece
+/// consumed, where there was something.
 fn decode_next<S: See>(
     alloc: Global,
     decoder: &mut Decoder,
@@ -37,7 +38,7 @@ fn decode_next<S: See>(
     Ok(Some(taken))
 }
 
-/// Shows the outcomes of a piece.
+/// Visits the outcomes of a piece.
 fn decode_piece<S: See>(
     alloc: Global,
     decoder: &mut Decoder,
@@ -54,7 +55,7 @@ fn decode_piece<S: See>(
     Ok(())
 }
 
-/// Shows the outcomes of a stream.
+/// Visits the outcomes of a stream.
 pub(crate) fn decode<S: See>(alloc: Global, octets: &[u8], seer: &mut S) -> Result<(), AllocError> {
     let mut decoder = Decoder::new(CONTEXT);
     for piece in octets.chunks(PIECE) {

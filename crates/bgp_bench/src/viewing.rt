@@ -15,7 +15,8 @@ struct Viewed {
 }
 
 impl Viewed {
-    /// Counts an outcome. Answers whether the stream goes on behind it. It is inlined, as a call would have the view built in memory.
+    /// Counts an outcome. Answers whether the stream continues after it. It is inlined, as a call would have the view
+    /// built in memory.
     #[inline(always)]
     fn add(&mut self, len: u16, outcome: &OutcomeView<'_>) -> bool {
         self.octets = self.octets.saturating_add(len as u64);
@@ -61,7 +62,7 @@ fn view(octets: &[u8]) -> Viewed {
     viewed
 }
 
-/// Views the stream so many times, and prints the counts of one time.
+/// Views the stream `rounds` times, and prints the counts of one round.
 pub(crate) fn run(rt: &impl Print, octets: &[u8], rounds: u32) -> io::Result<()> {
     let mut viewed = view(&[]);
     for _round in 0..rounds {

@@ -20,7 +20,7 @@ use bgp_rows::written::put_written;
 use std::alloc::Global;
 use std::io;
 
-/// What comes of a row's octets in one case.
+/// The result of a row's octets in one case.
 fn put_case(alloc: Global, row: &Row<'_>, case: &Case, octets: &[u8]) -> Result<Page, Trouble> {
     match row.kind {
         "messages" => put_messages(alloc, &case.context, octets),
@@ -42,7 +42,7 @@ fn put_case(alloc: Global, row: &Row<'_>, case: &Case, octets: &[u8]) -> Result<
     }
 }
 
-/// What comes of a row that has octets, in each case that it speaks of: the first that isn't wanted, else what is.
+/// The result of a row with octets, in each case that it includes: the first that isn't the one wanted, else the one that is.
 fn put_cases(alloc: Global, row: &Row<'_>) -> Result<Page, Trouble> {
     let contexts = Contexts::read(row.told("context").unwrap_or(""))?;
     let mut octets = Octets::new();
@@ -63,7 +63,7 @@ fn put_cases(alloc: Global, row: &Row<'_>) -> Result<Page, Trouble> {
     Ok(page)
 }
 
-/// What comes of a row.
+/// The result of a row.
 fn put_row(alloc: Global, row: &Row<'_>) -> Result<Page, Trouble> {
     match row.kind {
         "speaker" => put_speaker(alloc, row),
@@ -75,7 +75,7 @@ fn put_row(alloc: Global, row: &Row<'_>) -> Result<Page, Trouble> {
     }
 }
 
-/// What comes of a row. Where an allocation failed, what comes the second time.
+/// The result of a row, or after a failed allocation that of the second try.
 fn put_again(alloc: Global, row: &Row<'_>) -> Result<Page, Trouble> {
     match put_row(alloc, row) {
         Err(Trouble::Memory) => put_row(alloc, row),
@@ -83,7 +83,7 @@ fn put_again(alloc: Global, row: &Row<'_>) -> Result<Page, Trouble> {
     }
 }
 
-/// Prints what came in place of the wanted lines.
+/// Prints the result that differs from the wanted lines.
 fn print_difference(rt: &impl Print, row: &Row<'_>, came: &str) -> io::Result<()> {
     println!(rt; "row {}", row.name)?;
     println!(rt; "came")?;
@@ -109,7 +109,7 @@ fn check_row(rt: &(impl Print + AllocGlobal), row: &Row<'_>) -> io::Result<bool>
     Ok(false)
 }
 
-/// Checks a paragraph: a row, or a remark. A paragraph that has a line `want` or begins with `row` and can't be read as a row fails.
+/// Checks a paragraph: a row, or a remark. A paragraph that has a line `want` or begins with `row` but can't be read as a row fails.
 fn check_paragraph(
     rt: &(impl Print + AllocGlobal),
     paragraph: &str,
@@ -127,7 +127,7 @@ fn check_paragraph(
     Ok(Some(false))
 }
 
-/// Checks the rows of a file: how many passed, and how many failed.
+/// Checks the rows of a file: the number that passed, and the number that failed.
 pub(crate) fn check_file(rt: &(impl Print + AllocGlobal), file: &str) -> io::Result<(u64, u64)> {
     let mut passed = 0u64;
     let mut failed = 0u64;

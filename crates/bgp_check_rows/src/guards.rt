@@ -1,4 +1,4 @@
-//! What happens to a guard, and what it asks of its owner.
+//! What happens to a guard, and what it wants from its owner.
 
 use bgp_clean::Limits;
 use bgp_guard::{Came, Guard, Rules, Side};
@@ -13,16 +13,16 @@ const SIDES: [(Side, &str); 2] = [(Side::Outer, "outer"), (Side::Inner, "inner")
 
 const NO_EVENT: Trouble = Trouble::Row("a side and an event, or tick");
 
-/// How a guard is told of octets, and what is sent.
+/// How octets are handed to a guard, and what is sent.
 #[derive(Clone, Copy)]
 struct Way {
     /// Octets come one by one.
     by_octets: bool,
-    /// What is on its way to a side stays there until the row says that it is sent.
+    /// Octets on their way to a side stay there until the row says that they are sent.
     is_slow: bool,
 }
 
-/// The AS number of a word `first-as=AS`, by which paths begin.
+/// The AS number of a word `first-as=AS`, with which paths begin.
 fn first_as_of(word: &str) -> Option<u32> {
     word.strip_prefix("first-as=")?.parse::<u32>().ok()
 }
@@ -59,7 +59,7 @@ fn side_of(word: &str) -> Option<Side> {
     }
 }
 
-/// Adds what came of octets.
+/// Adds the outcome of octets.
 fn put_came(alloc: Global, page: &mut Page, came: Came) -> Result<(), Trouble> {
     match came {
         Came::Nothing => Ok(()),
@@ -83,7 +83,7 @@ fn put_came(alloc: Global, page: &mut Page, came: Came) -> Result<(), Trouble> {
     }
 }
 
-/// Hands octets over until none is taken.
+/// Hands octets over until none is accepted.
 fn hear(
     alloc: Global,
     guard: &mut Guard,
@@ -127,7 +127,7 @@ fn hear_all(
     Ok(())
 }
 
-/// Seconds go by.
+/// Seconds pass.
 fn tick(guard: &mut Guard, count: &str) -> Result<(), Trouble> {
     let Ok(count) = count.parse::<u16>() else {
         return Err(NO_EVENT);
@@ -138,7 +138,7 @@ fn tick(guard: &mut Guard, count: &str) -> Result<(), Trouble> {
     Ok(())
 }
 
-/// Adds for how many seconds octets may stand still.
+/// Adds the number of seconds for which octets may make no progress.
 fn put_stall(alloc: Global, guard: &Guard, page: &mut Page) -> Result<(), Trouble> {
     page.put("behind ")?;
     page.put_value(alloc, &(guard.stall_seconds() as u64))?;
@@ -170,7 +170,7 @@ fn pass(
     }
 }
 
-/// Does what a line says.
+/// Carries out a line.
 fn make(
     alloc: Global,
     row: &Row<'_>,
@@ -201,7 +201,7 @@ fn make(
     Ok(())
 }
 
-/// Adds what is on its way to a side, which is sent then, or how much there is.
+/// Adds the octets on their way to a side, which are sent then, or their number.
 fn put_way(
     alloc: Global,
     guard: &mut Guard,
@@ -227,7 +227,7 @@ fn put_way(
     page.put("\n")
 }
 
-/// Adds what the guard asks of its owner.
+/// Adds what the guard wants from its owner.
 fn put_asked(alloc: Global, guard: &mut Guard, way: Way, page: &mut Page) -> Result<(), Trouble> {
     for (side, name) in SIDES {
         put_way(alloc, guard, side, name, way, page)?;
@@ -242,7 +242,7 @@ fn put_asked(alloc: Global, guard: &mut Guard, way: Way, page: &mut Page) -> Res
     Ok(())
 }
 
-/// What a guard does of a row's lines, where octets come one way: of the lines `after` nothing is told.
+/// What a guard does for a row's lines, where octets come in one way: the result of the lines `after` isn't printed.
 fn put_life(alloc: Global, row: &Row<'_>, way: Way) -> Result<Page, Trouble> {
     let mut guard = Guard::new(alloc, rules_of(row.settings))?;
     let mut page = Page::new(alloc);
@@ -263,7 +263,7 @@ fn put_life(alloc: Global, row: &Row<'_>, way: Way) -> Result<Page, Trouble> {
     Ok(page)
 }
 
-/// What a guard does of a row's lines, octets at once and one by one.
+/// What a guard does for a row's lines, with octets at once and one by one.
 pub(crate) fn put_guard(alloc: Global, row: &Row<'_>) -> Result<Page, Trouble> {
     let is_slow = row.settings.split_whitespace().any(|word| word == "slow");
     let mut page = put_life(

@@ -1,5 +1,5 @@
-//! Checks rows: text files of octets, scripts and events, and of the lines that are wanted of each (docs/ROWS.md says how they are written).
-//! The words name the files; with no word the rows come on standard input. Prints each row that fails, and how many there were.
+//! Checks rows: text files of octets, scripts and events, each with its wanted lines (docs/ROWS.md says how they are written).
+//! The arguments name the files; without any the rows are read from standard input. Prints each row that fails, and the number of rows.
 #![tactic(auto)]
 
 mod copies;
@@ -16,14 +16,14 @@ use std::io::Read;
 use std::process::ExitCode;
 use std::{env, io};
 
-/// What came of all files.
+/// The result of all files.
 #[derive(Clone, Copy)]
 struct Sums {
     passed: u64,
     failed: u64,
 }
 
-/// Checks a file's octets, and prints what came of its rows.
+/// Checks a file's octets, and prints the result of its rows.
 fn check_octets(
     rt: &(impl Print + AllocGlobal),
     name: &str,
@@ -52,7 +52,7 @@ fn check_named(
     check_octets(rt, name, octets.as_slice(), sums)
 }
 
-/// The words behind the program's name.
+/// The words after the program's name.
 fn words(rt: &HostRuntime) -> io::Result<Vec<String>> {
     Ok(env::args(rt)?.skip(1).collect(rt.alloc())?)
 }

@@ -10,7 +10,7 @@ use bgp_script::{SCRIPT_MAX, Script, ScriptFault, put_report, read_script};
 use bgp_session::{MemoryWire, Report, run_pair};
 use std::alloc::Global;
 
-/// The script of a row: its lines that begin with `|` and a blank, without these.
+/// The script of a row: its lines that begin with `|` and a space, without these.
 fn text_of(alloc: Global, row: &Row<'_>) -> Result<Page, Trouble> {
     let mut page = Page::new(alloc);
     for line in row.given.split('\n') {
@@ -48,7 +48,7 @@ pub(crate) fn config_of(alloc: Global, settings: &str) -> Result<Config, Trouble
     }
 }
 
-/// Adds a report, and whether it isn't its copy.
+/// Adds a report, and a line if it doesn't equal its copy.
 fn put_reported(alloc: Global, page: &mut Page, report: &Report) -> Result<(), Trouble> {
     if !is_report_copied(alloc, report)? {
         page.put(OTHERWISE)?;
@@ -56,7 +56,7 @@ fn put_reported(alloc: Global, page: &mut Page, report: &Report) -> Result<(), T
     Ok(put_report(&mut page.text, report)?)
 }
 
-/// Adds the report of a script's moves, and whether one isn't its copy.
+/// Adds the report of a script's moves, and a line if one doesn't equal its copy.
 fn put_moves(alloc: Global, page: &mut Page, script: &Script) -> Result<(), Trouble> {
     let moves = script.moves.as_slice();
     if !are_moves_copied(alloc, moves)? {

@@ -1,4 +1,4 @@
-//! A session's events, octets and sends, and what it does of each.
+//! A session's events, octets and sends, and what it does for each.
 
 use crate::scripts::config_of;
 use crate::steps::{put_actions, put_standing};
@@ -14,13 +14,13 @@ use bgp_session::{Actions, Event, SendFault, Session, State, Timer};
 use bgp_update::Update;
 use std::alloc::Global;
 
-/// What a refused call of a session left otherwise than it was.
+/// The line for a session that a refused call changed.
 const CHANGED: &str = "a session that lacked memory isn't as it was\n";
 
 /// How octets are handed to a session.
 #[derive(Clone, Copy)]
 enum Way {
-    /// Fed in one piece, and again while octets are left, with steps until nothing comes.
+    /// Fed in one piece, and again while octets are left, with steps until there is no outcome.
     Whole,
     /// Fed octet by octet.
     Octets,
@@ -34,7 +34,7 @@ const WAYS: [(Way, &str); 3] = [
     (Way::Pulled, "by pull:\n"),
 ];
 
-/// The event of a word and what follows it.
+/// The event of a word and the words after it.
 fn event_of(word: &str, rest: &str) -> Option<Event> {
     match (word, rest) {
         ("start", "") => Some(Event::Start),
@@ -48,12 +48,12 @@ fn event_of(word: &str, rest: &str) -> Option<Event> {
     }
 }
 
-/// What a call whose allocation failed has to leave as it was.
+/// What a call whose allocation failed must leave unchanged.
 fn standing(session: &Session) -> (State, Option<Context>, usize) {
     (session.state(), session.context().copied(), session.held())
 }
 
-/// Judges what is held, and again where allocation failed.
+/// Judges the octets held, and again after a failed allocation.
 fn step_again(
     alloc: Global,
     session: &mut Session,
@@ -68,7 +68,7 @@ fn step_again(
     Ok(session.step(alloc)?)
 }
 
-/// Pulls octets, and again where allocation failed.
+/// Pulls octets, and again after a failed allocation.
 fn pull_again(
     alloc: Global,
     session: &mut Session,
@@ -84,7 +84,7 @@ fn pull_again(
     Ok(session.pull(alloc, octets)?)
 }
 
-/// Hands octets over, and what is left again while any is taken.
+/// Hands octets over, and what is left again while any is accepted.
 fn take(
     alloc: Global,
     session: &mut Session,
@@ -127,7 +127,7 @@ fn hear(
     }
 }
 
-/// In which context the body of an UPDATE that is to be sent is read.
+/// The context in which the body of an UPDATE to be sent is read.
 const SENT: Context = Context {
     internal: true,
     as4: true,
@@ -151,7 +151,7 @@ fn update_of(alloc: Global, body: &[u8]) -> Result<Update, Trouble> {
     }
 }
 
-/// Sends an UPDATE, and again where allocation failed.
+/// Sends an UPDATE, and again after a failed allocation.
 fn send_again(
     alloc: Global,
     session: &Session,
@@ -197,7 +197,7 @@ fn put_unsent(
     })
 }
 
-/// Adds what comes of sending an UPDATE: the octets behind one that stays, and the actions, or why it isn't sent.
+/// Adds the result of sending an UPDATE: the octets after one that must not change, and the actions, or why it isn't sent.
 fn send_update(
     alloc: Global,
     session: &Session,
@@ -219,7 +219,7 @@ fn send(alloc: Global, session: &Session, body: &[u8], page: &mut Page) -> Resul
     send_update(alloc, session, &update, page)
 }
 
-/// Does what a line says.
+/// Carries out a line.
 fn make(
     alloc: Global,
     row: &Row<'_>,
@@ -242,7 +242,7 @@ fn make(
     }
 }
 
-/// What a session does of a row's lines, where octets come one way: of the lines `after` nothing is told.
+/// What a session does for a row's lines, where octets come in one way: the result of the lines `after` isn't printed.
 fn put_life(alloc: Global, row: &Row<'_>, way: Way) -> Result<Page, Trouble> {
     let mut session = match config_of(alloc, row.settings) {
         Ok(config) => Session::new(config),
@@ -260,7 +260,7 @@ fn put_life(alloc: Global, row: &Row<'_>, way: Way) -> Result<Page, Trouble> {
     Ok(page)
 }
 
-/// What a session does of a row's lines, all ways that octets can come.
+/// What a session does for a row's lines, in all ways that octets can come.
 pub(crate) fn put_session(alloc: Global, row: &Row<'_>) -> Result<Page, Trouble> {
     let mut page = put_life(alloc, row, Way::Whole)?;
     for (way, name) in WAYS {

@@ -1,4 +1,4 @@
-//! What a speaker says of itself, and what it agrees on with a peer's OPEN.
+//! A speaker's own OPEN, and what it agrees on with a peer's OPEN.
 
 use crate::scripts::config_of;
 use bgp_msg::Message;
@@ -10,7 +10,7 @@ use bgp_rows::trouble::Trouble;
 use bgp_rows::written::message_of;
 use std::alloc::Global;
 
-/// In which context the messages of a pair are read: an OPEN is the same in each.
+/// The context in which the messages of a pair are read: an OPEN is the same in each.
 const ANY: Context = Context {
     internal: false,
     as4: true,
@@ -39,7 +39,7 @@ fn open_of(alloc: Global, octets: &[u8]) -> Result<Open, Trouble> {
     }
 }
 
-/// Adds what a speaker says.
+/// Adds a speaker's own OPEN.
 fn put_said(alloc: Global, page: &mut Page, config: &Config) -> Result<(), Trouble> {
     let frame = own_frame(config);
     page.put("says ")?;
@@ -52,7 +52,7 @@ fn put_said(alloc: Global, page: &mut Page, config: &Config) -> Result<(), Troub
     Ok(())
 }
 
-/// Adds what comes of a peer's OPEN.
+/// Adds the outcome of a peer's OPEN.
 fn put_answer(
     alloc: Global,
     page: &mut Page,
@@ -72,7 +72,7 @@ fn put_answer(
     page.put("\n")
 }
 
-/// What a speaker says, and what comes of a peer's OPEN.
+/// A speaker's own OPEN, and the outcome of a peer's OPEN.
 pub(crate) fn put_speaker(alloc: Global, row: &Row<'_>) -> Result<Page, Trouble> {
     let config = match config_of(alloc, row.settings) {
         Ok(config) => config,

@@ -10,7 +10,7 @@ use bgp_rows::trouble::Trouble;
 use bgp_session::{Action, Actions, Session, Timer};
 use std::alloc::Global;
 
-/// Why what a session announces can't be told.
+/// Why what a session announces can't be printed.
 const NO_CONTEXT: Trouble = Trouble::Row("an UPDATE where both sides agreed");
 
 /// The timers by their names.
@@ -69,7 +69,7 @@ fn put_action(
     }
 }
 
-/// Adds the lines of actions of a session, and which isn't its copy.
+/// Adds the lines of actions of a session, and a line for one that doesn't equal its copy.
 pub(crate) fn put_actions(
     alloc: Global,
     page: &mut Page,
@@ -85,7 +85,7 @@ pub(crate) fn put_actions(
     Ok(())
 }
 
-/// Adds where a session stands: its state, what was agreed on, the timers that run, and how many octets are held.
+/// Adds a session's state, what was agreed on, the timers that run, and the number of octets held.
 pub(crate) fn put_standing(
     alloc: Global,
     page: &mut Page,

@@ -1,4 +1,4 @@
--- The messages that announce the routes of one field of an UPDATE: each can be written where the UPDATE can, in no more octets.
+-- The messages that announce the routes of one field of an UPDATE: each can be written where the UPDATE can, and is no longer.
 use Rattle.bgp_clean.proofs.Prelude.{◌≡◌, ℕ, zero, suc, ◌+◌, ◌≤◌, Bool, true, false, not, ◌&&◌, ◌||◌, cond, eqb, ltb, List, [], ◌∷◌, ◌++◌, length, Option, Some, None, refl, sym, ap, ap₂}
 use Rattle.bgp_clean.proofs.Prelude.{subst, ◌∙◌, arith, flat_map, filter, list_any, AllByRecursion, and_right, or_from, or_parts, false≢true, flat_map-append, eqb-true, length-append, MP_REACH_NLRI, MP_UNREACH_NLRI}
 use Rattle.bgp_clean.proofs.Prelude.{Context, PrefixValue, IsValid, Attr, MpReach, MpUnreach, canonical, run_octets, is_too_wide, is_as4, is_empty, has_as_zero, stands_twice, HasRanges, IPV4, Attrs, Update}
@@ -51,7 +51,7 @@ module _ (a : Attrs) (h : Option (List ℕ)) (r : Option MpReach) where
 
 -- ---- lengths
 
--- how often NEXT_HOP stands among these types
+-- how often NEXT_HOP occurs among these types
 abbrev hops_among : List ℕ → ℕ
 hops_among [] = 0
 hops_among (k ∷ ks) = cond (eqb k NEXT_HOP) (suc (hops_among ks)) (hops_among ks)
@@ -115,7 +115,7 @@ module _ (ctx : Context) where
             (let now : size ctx (slot (part a h r) k) ≤ size ctx (slot a k) + 0 = subst (λ (t : Bool). size ctx (slot (part a h r) k) ≤ size ctx (slot a k) + cond t more 0) e here in
             omega (arith, later, p, q, now))
 
-    -- the attributes of a part have as many octets at most, but for those of its next hop and MP_REACH_NLRI
+    -- the attributes of a part are no longer, but for those of its next hop and MP_REACH_NLRI
     part-size : size ctx (attr_list (part a h r)) + size ctx (reach_list a.mp_reach) ≤ size ctx (attr_list a) + size ctx (reach_list r) + more
     part-size =
         let rest : size ctx (flat_map (slot (part a h r)) others) ≤ size ctx (flat_map (slot a) others) + times more 1 =
@@ -125,7 +125,7 @@ module _ (ctx : Context) where
 -- ---- which announcements are complete
 
 module _ (ctx : Context) (u : Update) (acc : IsAccepted ctx u) where
-  -- ORIGIN and AS_PATH are there
+  -- ORIGIN and AS_PATH are present
   abbrev HasPath : Type 0
   HasPath = (is_none u.attrs.origin || is_none u.attrs.as_path) ≡ false
 

@@ -1,4 +1,4 @@
--- An OPEN with the capabilities that are understood alone: it can be written where the OPEN was read, says the same, and stays so.
+-- An OPEN with only the capabilities that are understood: it can be written where the OPEN was read, says the same, and stays so when cleaned again.
 use Rattle.bgp_clean.proofs.Prelude.{◌≡◌, ℕ, zero, suc, ◌<◌, ◌≤◌, ◌^◌, Bool, true, false, ◌||◌, cond, eqb, List, [], ◌∷◌, ◌++◌, length, Option, Some, refl}
 use Rattle.bgp_clean.proofs.Prelude.{sym, ap, ap₂, subst, ◌∙◌, arith, w16, w32, from_be_bytes, list_any, AllByRecursion, or_parts, unwrap_or, true≢false}
 use Rattle.bgp_clean.proofs.Prelude.{length-append, same_Some, none-some, IPV4, IPV6, AreOctets, Row, AreOctets-front, AreOctets-back, AreOctets-drop}
@@ -12,7 +12,7 @@ use Rattle.bgp_open.specs.Prelude.{canonical, HasRanges}
 
 -- ---- those that are understood
 
--- what doesn't go on adds nothing to what was seen
+-- what isn't passed on adds nothing to what was seen
 unseen-by : (seen u : Bool) → cond seen false u ≡ false → (seen || u) ≡ seen
 unseen-by true u e = refl
 unseen-by false u e = e
@@ -40,7 +40,7 @@ understood-again : (seen : Seen) (caps : List Capability) → understood_behind 
 understood-again seen [] = refl
 understood-again seen (c ∷ later) = again-by seen c (understood_behind (seen_behind seen c) later) (goes_on seen c) refl (understood-again (seen_behind seen c) later)
 
--- what holds of each holds of those that go on
+-- what holds of each holds of those that are passed on
 understood-all : (P : Capability → Type 0) (seen : Seen) (caps : List Capability) → AllByRecursion P caps → AllByRecursion P (understood_behind seen caps)
 understood-all P seen [] all = tt
 understood-all P seen (c ∷ later) all = by (goes_on seen c) (understood-all P (seen_behind seen c) later all.1)
@@ -183,7 +183,7 @@ read-ranges o body octets s = record {
     id-octets p q r t (suc (suc (suc zero))) = t
     id-octets p q r t (suc (suc (suc (suc i)))) = omega arith
 
--- ---- the OPEN that goes on
+-- ---- the OPEN that is passed on
 
 parameter-shorter : (row more : List ℕ) → length row ≤ length more → length (parameter_octets row) ≤ length (parameter_octets more)
 parameter-shorter [] more le = omega arith

@@ -1,4 +1,4 @@
--- An UPDATE without the unrecognised attributes that are left out: it can be written where the UPDATE can, in no more octets.
+-- An UPDATE without the unrecognised attributes that are left out: it can be written where the UPDATE can, and is no longer.
 use Rattle.bgp_clean.proofs.Prelude.{◌≡◌, ◌⊎◌, inl, inr, ℕ, ◌+◌, ◌<◌, ◌≤◌, Bool, true, false, not, ◌&&◌, cond, eqb, List, [], ◌∷◌, ◌++◌, length, Option, Some}
 use Rattle.bgp_clean.proofs.Prelude.{None, refl, sym, ap, subst, ◌∙◌, arith, flat_map, filter, list_any, AllByRecursion, both_ways, cond-false, or_parts}
 use Rattle.bgp_clean.proofs.Prelude.{or_from, not-false, not_from_true, flat_map-append, ne_eqb, length-append, Context, Attr, Opaque, is_recognised}
@@ -28,7 +28,7 @@ module _ {A : Type 0} (test : A → Bool) where
       by true e same = ap (λ (t : Bool). cond t (x ∷ filter test (filter test xs)) (filter test (filter test xs))) e ∙ ap (λ (ys : List A). x ∷ ys) same
       by false e same = same
 
--- ---- two tables that differ in what stands for all other numbers
+-- ---- two tables that differ in the value for all other numbers
 
 entry-two : {A : Type 0} (R : A → A → Type 0) (kind : ℕ) (d e : A) → ((x : A) → R x x) → R d e → (rows : List (ℕ × A)) → R (entry_of kind rows d) (entry_of kind rows e)
 entry-two R kind d e same rest [] = rest
@@ -82,7 +82,7 @@ module _ (drops : ℕ → Bool) where
   other-by k os true e = inr (ap (λ (x : Option Opaque). present (λ (o : Opaque). Attr.Opaque o) x) (find-dropped k e os))
   other-by k os false e = inl (ap (λ (x : Option Opaque). present (λ (o : Opaque). Attr.Opaque o) x) (find-stays k e os))
 
-  -- of each type, the attribute that was there, or none
+  -- of each type, the former attribute, or none
   dropped-slot : (a : Attrs) (k : ℕ) → IsSameOrNone (slot (cleaned_attrs drops a) k) (slot a k)
   dropped-slot a k =
       subst (λ (xs : List Attr). IsSameOrNone xs (slot a k)) (sym (slot-at (cleaned_attrs drops a) k))
@@ -114,7 +114,7 @@ module _ (drops : ℕ → Bool) where
   dropped-shorter : (ctx : Context) (a : Attrs) → length (attributes_octets ctx (cleaned_attrs drops a)) ≤ length (attributes_octets ctx a)
   dropped-shorter ctx a = shorter-by (canonical ctx) a canonical_order
 
-  -- ---- those that stay rise
+  -- ---- the types of those that are kept are in ascending order
 
   lower : (low next : ℕ) (os : List Opaque) → low ≤ next → RisesFrom next os → RisesFrom low os
   lower low next [] le rises = tt

@@ -1,4 +1,4 @@
--- Which UPDATEs are an End-of-RIB: what is taken of one, and what is read where one was written.
+-- Which UPDATEs are an End-of-RIB: what is accepted from one, and what is read where one was written.
 use Rattle.bgp_clean.proofs.Prelude.{◌≡◌, ℕ, ◌+◌, ◌≤◌, Bool, true, false, not, ◌&&◌, ◌||◌, cond, eqb, List, [], ◌∷◌, ◌++◌, length, Option, Some, None, refl}
 use Rattle.bgp_clean.proofs.Prelude.{sym, ap, subst, ◌∙◌, arith, flat_map, list_any, AllByRecursion, both_ways, or_parts, not-false, nil_from_length}
 use Rattle.bgp_clean.proofs.Prelude.{eqb-true, none-some, IPV4, Context, PrefixValue, run_of, row_is_run, Attr, MpUnreach, canonical, is_writable, Belongs}
@@ -38,7 +38,7 @@ pub record IsEnding (u : Update) (family : ℕ) : Type 0 where
   pub is : u ≡ end_update unreach
   pub of_family : family_of_end unreach ≡ Some family
 
--- ---- what is taken of an End-of-RIB
+-- ---- what is accepted from an End-of-RIB
 
 bare-unreach : (x : Attr) (f : ℕ) → bare_family x ≡ Some f → (r : MpUnreach) × (x ≡ Attr.MpUnreach r)
 bare-unreach (Attr.MpUnreach r) f e = (r, refl)
@@ -94,7 +94,7 @@ end-has-none (Some (MpUnreach.Ip4 (p ∷ ps))) f e = absurd (none-some f e)
 end-has-none (Some (MpUnreach.Ip6 (p ∷ ps))) f e = absurd (none-some f e)
 
 module _ (ctx : Context) (u : Update) where
-  -- an UPDATE that is taken from an End-of-RIB is that
+  -- an UPDATE that is accepted from an End-of-RIB is one
   pub taken-ending : (body : List ℕ) (notes : List Note) (f : ℕ) → verdict_of ctx body ≡ Verdict.Take u notes → family_in ctx (parts_of body) ≡ Some f → IsEnding u f
   taken-ending body notes f e is_end =
       let is = taken-of ctx body u notes e in
@@ -106,7 +106,7 @@ module _ (ctx : Context) (u : Update) where
       let end : IsEnding u f = subst (λ (v : Update). IsEnding v f) update (ending ctx p f e) in
       absurd (both_ways (has_routes_in u) (ap has_routes_in end.is ∙ end-has-none end.unreach f end.of_family) more)
 
-  -- an UPDATE with routes is taken from no End-of-RIB
+  -- an UPDATE with routes isn't accepted from an End-of-RIB
   pub unending : (body : List ℕ) (notes : List Note) → verdict_of ctx body ≡ Verdict.Take u notes → has_routes_in u ≡ true → family_in ctx (parts_of body) ≡ None
   unending body notes e more =
       let is = taken-of ctx body u notes e in

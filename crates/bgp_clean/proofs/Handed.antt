@@ -1,4 +1,4 @@
--- What is handed on of a message is clean, kind by kind.
+-- What is passed on of a message is clean, kind by kind.
 use Rattle.bgp_clean.proofs.Prelude.{◌≡◌, ℕ, ◌+◌, ◌≤◌, Bool, true, false, cond, List, [], ◌∷◌, ◌++◌, length, map, Option, Some, None, Result, Ok, Err, refl, sym}
 use Rattle.bgp_clean.proofs.Prelude.{ap, ap₂, subst, ◌∙◌, arith, AllByRecursion, false≢true, length-drop, AreOctets, AreOctets-back, Kind, IsFrame, header, length-body, run_octets, IPV4, IPV6}
 use Rattle.bgp_clean.proofs.Prelude.{Notification, length-octets_of, length-IsFrame, Context, Capability, OpenFault, Open, open_notification, reading_of, MpReach, MpUnreach, CanBeWritten, attributes_octets}
@@ -9,7 +9,7 @@ use Rattle.bgp_clean.proofs.Prelude.{Lesson, AreNoLonger, AreUnchanged, announce
 use Rattle.bgp_clean.proofs.Prelude.{none-some, same_Some}
 use Rattle.bgp_clean.proofs.Understood.{understood_good}
 use Rattle.bgp_frame.specs.Frame as frame
-use Rattle.bgp_frame.proofs.Headers.{below_4097}
+use Rattle.bgp_frame.proofs.Headers.{below_limit}
 use Rattle.bgp_open.proofs.Readings.{reading-spells}
 use Rattle.bgp_msg.specs.Prelude.{canonical}
 use Rattle.bgp_msg.proofs.Itself.{valid-itself}
@@ -20,6 +20,8 @@ use Rattle.bgp_clean.proofs.Lessons.{both-none, lesson-ended, none-gone, with_re
 use Rattle.bgp_clean.proofs.CleanedOpens.{read-ranges, cleaned-ranges, cleaned-shorter, cleaned-again, cleaned-lacks_none, cleaned-peer_as}
 use Rattle.bgp_clean.proofs.Withdrawals.{withdrawal-written, withdrawal-can, gone-can, nlri-can, reached-can}
 use Rattle.bgp_clean.proofs.Announcing.{nlri-part-can, reached-part-can, left-true}
+use Rattle.bgp_frame.specs.Kind.{plain}
+use Rattle.bgp_frame.specs.steps.AreTypes.{plain-are}
 
 abbrev ok : List Message → Result (List Message) CleanFault
 ok ns = Ok ns
@@ -43,21 +45,21 @@ module _ (ctx : Context) (drops : ℕ → Bool) (refuses : Update → Bool) (k :
   m = framed k body
 
   long : length octets ≡ 19 + length body
-  long = length-IsFrame m octets f
+  long = length-IsFrame plain plain-are m octets f
 
   short : length body ≤ 4077
-  short = omega (arith, long, below_4097 k (length octets) f.allowed)
+  short = omega (arith, long, below_limit plain plain-are k (length octets) f.allowed)
 
   body-octets : AreOctets body
   body-octets = AreOctets-back (header k (19 + length body)) body (subst AreOctets f.octets are)
 
   is-written : (n : Message) → HasMessageRanges n → invalid_of ctx n ≡ None → length (body_of ctx n) ≤ length body → IsWritten ctx m n
   is-written n ranges valid le = record {
-    taken = valid-itself ctx n ranges valid (omega (arith, length-octets_of (written ctx n), short));
-    no_longer = omega (arith, length-octets_of (written ctx n), length-octets_of m);
+    taken = valid-itself ctx n ranges valid (omega (arith, length-octets_of plain plain-are (written ctx n), short));
+    no_longer = omega (arith, length-octets_of plain plain-are (written ctx n), length-octets_of plain plain-are m);
   }
 
-  -- cleaned again it is what goes on of it, and what is learned of it is what it says
+  -- cleaned again it is what is passed on of it, and a receiver learns from it what it says
   again-from : (first : Bool) (n : Message) → IsWritten ctx m n → handed drops refuses first (ended_family ctx (written ctx n)) n ≡ Ok (n ∷ [])
       → cleaned ctx drops refuses first (written ctx n) ≡ Ok (n ∷ [])
   again-from first n w again = ap (cleaned_outcome drops refuses first (ended_family ctx (written ctx n))) w.taken.taken ∙ again
@@ -132,7 +134,7 @@ module _ (ctx : Context) (drops : ℕ → Bool) (refuses : Update → Bool) (bod
   read-back : (u : Update) → CanBeWritten ctx u body → verdict_of ctx (written_body ctx u) ≡ Verdict.Take u []
   read-back u can = valid-taken ctx u can.ranges can.valid (omega (arith, can.no_longer, fits))
 
-  -- an UPDATE that is one part: it goes on as itself, and this is learned of it
+  -- an UPDATE that is one part: it is passed on as itself, and this is learned from it
   record IsPart (x : Update) (l : Lesson) : Type 0 where
     can : CanBeWritten ctx x body
     has : has_routes_in x ≡ true
@@ -157,7 +159,7 @@ module _ (ctx : Context) (drops : ℕ → Bool) (refuses : Update → Bool) (bod
         ∙ ap (λ (k : Lesson). record k { ended = None }) p.says
         ∙ ap (λ (o : Option ℕ). record l { ended = o }) (sym p.goes_on)
 
-  -- some parts, one after the other
+  -- some parts in order
   record AreParts (us : List Update) (l : Lesson) : Type 0 where
     taken : AllByRecursion (IsTakenAsItself ctx) (map Message.Update us)
     again : (first : Bool) → AreUnchanged ctx drops refuses first (map Message.Update us)
@@ -175,7 +177,7 @@ module _ (ctx : Context) (drops : ℕ → Bool) (refuses : Update → Bool) (bod
     taught = ap₂ both (part-learned x l p) ps.taught;
   }
 
-  -- a part that is there or not
+  -- a part that is present or not
   abbrev Given : Bool → Update → Lesson → Type 0
   Given true x l = IsPart x l
   Given false x l = l ≡ no_lesson
@@ -257,7 +259,7 @@ module _ (ctx : Context) (drops : ℕ → Bool) (refuses : Update → Bool) (bod
     given-reached true e = reached-by (refuses (reached_part s)) refl e
     given-reached false e = refl
 
-    -- all parts of an UPDATE: what is learned of them is what it says
+    -- all parts of an UPDATE: what is learned from them is what it says
     all-parts : AreParts (parts_handed refuses s) (lesson_of refuses s)
     all-parts =
         given-more (has_any (gone_routes s)) (withdrawal (gone_routes s)) (gone_lesson (gone_routes s)) _ _
@@ -286,7 +288,7 @@ module _ (ctx : Context) (drops : ℕ → Bool) (refuses : Update → Bool) (bod
     read : CanBeWritten ctx u body
     read = taken-written ctx body u notes inside e
 
-    -- what is learned of the message
+    -- what is learned from the message
     told : (family : Option ℕ) → family_in ctx (parts_of body) ≡ family → lesson_by drops refuses family (Message.Update u) ≡ lesson ctx drops refuses this
     told family is =
         ap (λ (o : Option ℕ). lesson_by drops refuses o (Message.Update u)) (sym is)
@@ -297,7 +299,7 @@ module _ (ctx : Context) (drops : ℕ → Bool) (refuses : Update → Bool) (bod
         let all = all-parts u stays refl (dropped-written drops ctx u body read) in
         parts-end (parts_handed refuses stays) (lesson_of refuses stays) first all (ap (λ (o : Option ℕ). record (lesson_of refuses stays) { ended = o }) (lesson-ended refuses stays) ∙ told None is)
 
-    -- an End-of-RIB, which goes on as the one of its family
+    -- an End-of-RIB, which is passed on as the one of its family
     abbrev EndsAgain : ℕ → Type 0
     EndsAgain g =
         CanBeWritten ctx (end_of g) body × (family_in ctx (parts_of (written_body ctx (end_of g))) ≡ Some g)

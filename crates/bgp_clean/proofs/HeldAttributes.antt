@@ -1,4 +1,5 @@
--- The attributes that are kept of a message, whatever its verdict: each is within its ranges and belongs there, and the field has as many octets or more.
+-- The attributes that are kept of a message, whatever its verdict: each is within its ranges and belongs there, and they are no longer than the
+-- field.
 use Rattle.bgp_clean.proofs.Prelude.{◌≡◌, ℕ, ◌+◌, ◌≤◌, Bool, List, ◌∷◌, ◌++◌, length, refl, ap, ◌∙◌, arith, flat_map, filter, AllByRecursion, flat_map-append}
 use Rattle.bgp_clean.proofs.Prelude.{not, length-append, MP_REACH_NLRI, MP_UNREACH_NLRI, AreOctets, Context, Attr, MpReach, MpUnreach, Belongs, HasRanges}
 use Rattle.bgp_clean.proofs.Prelude.{Attrs, carries_routes, marks_of, Parts, present, types_from, slot, canonical_order, attr_list, kept_of, attrs_of}
@@ -45,7 +46,7 @@ module _ (a : Attrs) where
     unfolding canonical_order
     first-routes = first-two MP_REACH_NLRI MP_UNREACH_NLRI (filter (λ kind. not (carries_routes kind)) (types_from 0 256))
 
-    -- they stand among the others
+    -- they are among the others
     pub both-within : length (flat_map f reach_attr) + length (flat_map f unreach_attr) ≤ length (flat_map f (attr_list a))
     both-within =
         let reach : length (flat_map f (slot a MP_REACH_NLRI)) ≡ length (flat_map f reach_attr) = ap (λ (xs : List Attr). length (flat_map f xs)) (slot-at a MP_REACH_NLRI) in

@@ -1,10 +1,10 @@
--- What a hearer learns of the messages that stand for an UPDATE: what the UPDATE says.
+-- What a receiver learns from the messages that replace an UPDATE: what the UPDATE says.
 use Rattle.bgp_clean.proofs.Prelude.{◌≡◌, ℕ, Bool, true, false, ltb, List, [], ◌∷◌, ◌++◌, length, Option, Some, None, option_or, refl, ap, ap₂, ◌∙◌, append-nil, false≢true, or_parts, ltb-false, nil_from_length, arith}
 use Rattle.bgp_clean.proofs.Prelude.{PrefixValue, MpReach, attrs_from, gone_ip4, gone_ip6, Routes, Update, Message, cleaned_update, unreach_of, withdrawal}
 use Rattle.bgp_clean.proofs.Prelude.{Announced, Lesson, announced_lesson, announced_nlri, announced_reached, both, gone_lesson, gone_routes, has_any, lesson_by, lesson_of, nlri_part, nlri_routes, no_lesson, reached_part, reached_routes, taught_by}
 use Rattle.bgp_clean.proofs.Dropped.{dropped-again}
 
--- ---- lessons one after the other
+-- ---- lessons in sequence
 
 or-none : {A : Type 0} (o : Option A) → option_or o None ≡ o
 or-none None = refl
@@ -34,7 +34,7 @@ pub withdrawal-gone : (r : Routes) → gone_routes (withdrawal r) ≡ r
 unfolding attrs_from
 withdrawal-gone r = ap₂ (λ (x y : List PrefixValue). routes (r.ip4 ++ x) y) (unreach-gone r.ip6).0 (unreach-gone r.ip6).1 ∙ ap (λ (x : List PrefixValue). routes x r.ip6) (append-nil r.ip4)
 
--- none are none
+-- where there are no routes, there is nothing to learn
 pub none-gone : (r : Routes) → has_any r ≡ false → gone_lesson r ≡ no_lesson
 none-gone r e =
     let none = or_parts (ltb 0 (length r.ip4)) (ltb 0 (length r.ip6)) e in
@@ -46,7 +46,7 @@ taught-ended true true a = refl
 taught-ended true false a = refl
 taught-ended false refused a = refl
 
--- an UPDATE by itself ends no family
+-- an UPDATE by itself isn't an End-of-RIB
 pub lesson-ended : (refuses : Update → Bool) (u : Update) → (lesson_of refuses u).ended ≡ None
 lesson-ended refuses u =
     ap₂ (λ (x y : Option ℕ). option_or x y) (taught-ended (has_any (nlri_routes u)) (refuses (nlri_part u)) (announced_nlri u))
@@ -67,7 +67,7 @@ module _ (refuses : Update → Bool) where
       ap₂ (λ (s t : Bool). both no_lesson (both (taught_by s t (announced_nlri u)) no_lesson)) there keeps
       ∙ ap (λ (l : Lesson). both no_lesson l) (both-none (announced_lesson (announced_nlri u)))
 
-  -- of IPv4 or IPv6
+  -- their family is IPv4 or IPv6
   reached-by : (u : Update) (r : Option MpReach) → (let w : Update = with_reach u r in
       has_any (reached_routes w) ≡ true → refuses (reached_part w) ≡ false → lesson_of refuses (reached_part w) ≡ announced_lesson (announced_reached w))
   reached-by u None there keeps = absurd (false≢true there)

@@ -1,4 +1,4 @@
--- What of a message's outcome can be handed on.
+-- What can be passed on of a message's outcome.
 use Rattle.bgp_clean.proofs.Prelude.{◌≡◌, ℕ, ◌+◌, ◌≤◌, Bool, true, false, cond, List, [], ◌∷◌, ◌++◌, length, drop, Option, Some, None, Result, Ok, Err, refl}
 use Rattle.bgp_clean.proofs.Prelude.{sym, ap, ap₂, subst, ◌∙◌, arith, nil_from_length, slice_index, AreOctets, Kind, octets_of, header, IsLength}
 use Rattle.bgp_clean.proofs.Prelude.{Notification, Context, OpenFault, Open, open_notification, reading_of, is_bad, Invalid, Note, Routes}
@@ -54,7 +54,7 @@ body-kind ctx Kind.Update body j e = update-kind (verdict_of ctx body) j e
 body-kind ctx Kind.Notification body j e = same_kind Kind.Notification j e
 body-kind ctx Kind.Keepalive body j e = same_kind Kind.Keepalive j e
 
--- ---- messages that are handed on as they came, and withdrawals
+-- ---- messages that are passed on unchanged, and withdrawals
 
 two-first : (b : List ℕ) → 2 ≤ length b → slice_index b 0 ∷ slice_index b 1 ∷ drop 2 b ≡ b
 two-first (x ∷ y ∷ b) two = refl
@@ -102,7 +102,7 @@ module _ (ctx : Context) (m : frame.Message) (allowed : IsLength m.kind (19 + le
       let none : [] ≡ m.body = sym (nil_from_length m.body (omega (arith, most.most))) in
       ap₂ (λ (k : Kind) (b : List ℕ). header k (19 + length b) ++ b) (sym of) none
 
-  -- the UPDATE that withdraws the routes is no longer
+  -- the UPDATE that withdraws the routes is no longer than the message
   pub withdrawal_short : AreOctets m.body → (routes : Routes) (notes : List Note) → out_of ctx m ≡ Outcome.Withdraw routes notes → length (withdrawal_octets routes) ≤ 4077
   withdrawal_short octets routes notes is =
       let of : m.kind ≡ Kind.Update = is-kind (Outcome.Withdraw routes notes) Kind.Update is refl in

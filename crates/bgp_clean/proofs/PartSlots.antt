@@ -1,4 +1,4 @@
--- The attributes of the messages that stand for an UPDATE, by type.
+-- The attributes of the messages that replace an UPDATE, by type.
 use Rattle.bgp_clean.proofs.Prelude.{◌≡◌, ℕ, Bool, true, false, cond, eqb, List, [], ◌∷◌, refl, sym, ◌∙◌, AllByRecursion, both_ways, false≢true, flat_map, append-nil}
 use Rattle.bgp_clean.proofs.Prelude.{MP_REACH_NLRI, MP_UNREACH_NLRI, Attr, MpReach, MpUnreach, Attrs, attr_list, attrs_from, entry_of, other_slot, present, slot, slots, slot-at, Update, Option, None, gone_routes, hop_part, nlri_routes, reach_left, reached_routes, unreach_of}
 use Rattle.bgp_numbers.specs.declared.attribute.TheConstants.{NEXT_HOP}
@@ -10,7 +10,7 @@ module _ (a : Attrs) (hop : Option (List ℕ)) (r : Option MpReach) (u : Option 
   abbrev pub changed : Attrs
   changed = record a { next_hop = hop; mp_reach = r; mp_unreach = u }
 
-  -- each other attribute is as it was
+  -- each other attribute is unchanged
   pub slot-apart : (k : ℕ) → eqb k NEXT_HOP ≡ false → eqb k MP_REACH_NLRI ≡ false → eqb k MP_UNREACH_NLRI ≡ false → slot changed k ≡ slot a k
   unfolding slot
   slot-apart k no_hop no_reach no_unreach = rw (no_hop, no_reach, no_unreach) refl
@@ -28,7 +28,7 @@ module _ (a : Attrs) where
   unfolding slot
   slot-unreach = refl
 
--- ---- a withdrawal has MP_UNREACH_NLRI at most
+-- ---- a withdrawal has no attribute but MP_UNREACH_NLRI
 
 entry-empty : (kind : ℕ) (rows : List (ℕ × List Attr)) (d : List Attr) → d ≡ [] → AllByRecursion (λ row. eqb kind row.0 ≡ true → row.1 ≡ []) rows → entry_of kind rows d ≡ []
 entry-empty kind [] d none all = none

@@ -1,4 +1,4 @@
--- The octets of the messages that stand for an UPDATE.
+-- The octets of the messages that replace an UPDATE.
 use Rattle.bgp_clean.proofs.Prelude.{◌≡◌, ℕ, ◌+◌, ◌<◌, ◌≤◌, Bool, true, false, ◌||◌, cond, eqb, List, [], ◌∷◌, length, refl, sym, ap, ◌∙◌, flat_map, or_from, le-ltb, append-nil, if◌then◌else◌}
 use Rattle.bgp_clean.proofs.Prelude.{Context, IPV6, Update, Message, attributes_octets, canonical, written_body, written, length-octets_of, end_of, end_unreach, refuses_in}
 use Rattle.bgp_frame.specs.Prelude.{octets_of}
@@ -8,12 +8,14 @@ use Rattle.bgp_clean.specs.Limits.{breaks, leaves_no_room}
 use Rattle.bgp_clean.specs.steps.Written.{updates_octets}
 use Rattle.bgp_clean.proofs.Ends.{with_unreach, unreach-list}
 use Rattle.std.proofs.lemmas.Bool.{lt-ltb}
+use Rattle.bgp_frame.specs.Kind.{plain}
+use Rattle.bgp_frame.specs.steps.AreTypes.{plain-are}
 
 -- an UPDATE as a whole message
 pub update_long : (ctx : Context) (u : Update) → length (updates_octets ctx (u ∷ [])) ≡ 19 + length (written_body ctx u)
-update_long ctx u = ap length (append-nil (octets_of (written ctx (Message.Update u)))) ∙ length-octets_of (written ctx (Message.Update u))
+update_long ctx u = ap length (append-nil (octets_of (written ctx (Message.Update u)))) ∙ length-octets_of plain plain-are (written ctx (Message.Update u))
 
--- ---- what goes on of an announcement
+-- ---- what is passed on of an announcement
 
 module _ (ctx : Context) (l : Limits) (part gone : Update) where
   -- it is refused, or not

@@ -8,6 +8,8 @@ use Rattle.bgp_frame.specs.Frame as frame
 use Rattle.bgp_frame.specs.Stream as stream
 use Rattle.bgp_msg.specs.Prelude.{canonical}
 use Rattle.bgp_clean.proofs.Handed.{handed-clean}
+use Rattle.bgp_frame.specs.Kind.{plain}
+use Rattle.bgp_frame.specs.steps.AreTypes.{plain-are}
 
 module _ (ctx : Context) (drops : ℕ → Bool) (refuses : Update → Bool) where
   -- messages that are unchanged, and others after them
@@ -17,12 +19,12 @@ module _ (ctx : Context) (drops : ℕ → Bool) (refuses : Update → Bool) wher
   more-unchanged first (n ∷ []) later some all rest = (all.0, rest)
   more-unchanged first (n ∷ m ∷ ns) later some all rest = (all.0, more-unchanged false (m ∷ ns) later (omega arith) all.1 rest)
 
-  -- cleaned one by one they are themselves
+  -- cleaned one by one they are unchanged
   each-alone : (first : Bool) (ns : List Message) → AreUnchanged ctx drops refuses first ns → cleaned_from ctx drops refuses first (map (written ctx) ns) ≡ map (λ n. n ∷ []) ns
   each-alone first [] all = refl
   each-alone first (n ∷ ns) all = ap₂ (λ (r : Result (List Message) CleanFault) (later : List (List Message)). handed_then r later) all.0 (each-alone false ns all.1)
 
-  -- what is said of the messages that go on, of a stream from its first message or a later one
+  -- what is claimed of the messages that are passed on, of a stream from its first message or a later one
   record AreClean (first : Bool) (ms : List frame.Message) (each : List (List Message)) : Type 0 where
     taken : AllByRecursion (IsTakenAsItself ctx) (joined_messages each)
     again : AreUnchanged ctx drops refuses first (joined_messages each)
@@ -69,7 +71,7 @@ module _ (ctx : Context) where
   told (n ∷ ns) taken = ap₂ (λ (o : Outcome) (os : List (ℕ × Outcome)). (length (canonical ctx n), o) ∷ os) (sym (taken.0).taken) (told ns taken.1)
 
   waits : Waits []
-  waits = omega (arith, (wanted-bounds []).0)
+  waits = omega (arith, (wanted-bounds plain plain-are []).0)
 
   gives : (ns : List Message) → AllByRecursion (IsTakenAsItself ctx) ns → stream.Gives (stream_rules ctx) (flat_map (canonical ctx) ns) (map (outcome_of ctx) ns) (End.Wait 0)
   gives ns taken = record {

@@ -1,10 +1,10 @@
--- An OPEN with the capabilities that are understood alone is valid where the whole one is.
+-- An OPEN with only the capabilities that are understood is valid where the whole one is.
 use Rattle.bgp_clean.proofs.Prelude.{◌≡◌, ℕ, ◌+◌, ◌≤◌, Bool, true, false, ◌||◌, cond, ltb, List, [], ◌∷◌, length, refl, arith, list_any, false≢true, or_parts}
 use Rattle.bgp_clean.proofs.Prelude.{or_from, ltb-false, le-ltb, length-append, IPV4, IPV6, Capability, Multi, As4, Other, Open, is_short_hold, is_zero_id}
 use Rattle.bgp_clean.proofs.Prelude.{is_unicast, capability_octets, row_octets, is_misnamed, is_bad_row, is_bad, Seen, none_seen, goes_on, seen_behind}
 use Rattle.bgp_clean.proofs.Prelude.{understood, understood_behind, cleaned_open}
 
--- ---- in no more octets
+-- ---- no longer
 
 row-by : (t : Bool) (c : Capability) (more later : List Capability) → length (row_octets more) ≤ length (row_octets later)
     → length (row_octets (cond t (c ∷ more) more)) ≤ length (row_octets (c ∷ later))

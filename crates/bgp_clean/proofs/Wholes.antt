@@ -15,7 +15,7 @@ module _ (k : Kind) (old pad body : List ℕ) (nineteen : length pad ≡ 19) whe
   back : drop (length old + 19) laid ≡ body
   back = ap (λ (n : ℕ). drop n laid) (omega (arith, length-append old pad, nineteen)) ∙ drop-append_seam (old ++ pad) body
 
-  -- what stands there once the header is set
+  -- the octets once the header is set
   pub header_laid : (start : ℕ) (w new : List ℕ) → start ≡ length old → w ≡ laid → new ≡ take start w ++ (header k (length (drop start w)) ++ drop (start + 19) w)
       → new ≡ old ++ (header k (19 + length body) ++ body)
   header_laid start w new at is e =

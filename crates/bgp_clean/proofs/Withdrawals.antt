@@ -1,4 +1,4 @@
--- The UPDATE that withdraws a message's routes: it can be written where the message was read, in no more octets, and says something.
+-- The UPDATE that withdraws a message's routes: it can be written where the message was read, is no longer, and has routes.
 use Rattle.bgp_clean.proofs.Prelude.{◌≡◌, ℕ, ◌+◌, ◌≤◌, Bool, true, false, not, cond, ltb, List, [], ◌∷◌, ◌++◌, length, Option, Some, None, refl, sym, ap}
 use Rattle.bgp_clean.proofs.Prelude.{subst, ◌∙◌, arith, flat_map, list_any, AllByRecursion, option_or, both_ways, and_right, or_from}
 use Rattle.bgp_clean.proofs.Prelude.{not_from_true, flat_map-append, append-nil, length-append, AreOctets, Row, Context, PrefixValue, IsValid}
@@ -42,7 +42,7 @@ module _ (ctx : Context) where
   abbrev pub size : List Attr → ℕ
   size xs = length (flat_map (canonical ctx) xs)
 
-  -- a value behind three octets or four
+  -- a value after three octets or four
   pub size-one : (x : Attr) → (3 + length (value_octets ctx x) ≤ size (x ∷ [])) × (size (x ∷ []) ≤ 4 + length (value_octets ctx x))
   size-one x =
       let bounds = head-bounds (ltb 255 (length (value_octets ctx x))) in
@@ -53,12 +53,12 @@ module _ (ctx : Context) where
   size-gone [] = omega arith
   size-gone (p ∷ ps) = let most = (size-one (Attr.MpUnreach (MpUnreach.Ip6 (p ∷ ps)))).1 in omega arith
 
-  -- as much as it has in an attribute of its own, where there is one
+  -- the length that it has in an attribute of its own, where there is one
   size-own : (ps : List PrefixValue) → size (gone_attr ps) ≤ size (Attr.MpUnreach (MpUnreach.Ip6 ps) ∷ [])
   size-own [] = omega arith
   size-own (p ∷ ps) = omega arith
 
-  -- the routes of both attributes in their new places have no more octets
+  -- the routes of both attributes are no longer in their new fields
   module _ (u : Option MpUnreach) (r : Option MpReach) where
     abbrev Fit : Type 0
     Fit = run (gone_ip4 u) + (run (reached_ip4 r) + size (gone_attr (gone_ip6 u ++ reached_ip6 r))) ≤ size (reach_list r) + size (unreach_attrs u)

@@ -1,4 +1,4 @@
--- What is handed on of a message, and where a cleaned stream ends (RFC 7606, sections 2 and 5; RFC 4271, section 6).
+-- What is passed on of a message, and where a cleaned stream ends (RFC 7606, sections 2 and 5; RFC 4271, section 6).
 use Rattle.std.specs.Prelude.{ℕ, Bool, List, [], ◌∷◌, map, Option, None, Some, Result, Ok, Err, if◌then◌else◌}
 use Rattle.bgp_frame.specs.declared.kind.Kind.{Kind}
 use Rattle.bgp_frame.specs.Frame as frame
@@ -22,22 +22,22 @@ family_by ctx _ body = None
 abbrev pub ended_family : Context → frame.Message → Option ℕ
 ended_family ctx m = family_by ctx m.kind m.body
 
--- an OPEN goes on as the first message alone, and where it doesn't lose all of its families
+-- an OPEN is passed on only as the first message, and where it doesn't lose all of its families
 abbrev pub handed_open : Bool → Open → Result (List Message) CleanFault
 handed_open first o =
     if first then (if lacks_family o then Err CleanFault.NoFamily else Ok (Message.Open (cleaned_open o) ∷ [])) else Err CleanFault.LateOpen
 
--- where no part is left, a KEEPALIVE stands for the UPDATE: none becomes an End-of-RIB
+-- where no part remains, a KEEPALIVE replaces the UPDATE: none becomes an End-of-RIB
 abbrev pub or_keepalive : List Update → List Message
 or_keepalive [] = Message.Keepalive ∷ []
 or_keepalive (u ∷ us) = map Message.Update (u ∷ us)
 
--- an UPDATE goes on by its parts, and an End-of-RIB as itself
+-- an UPDATE is passed on in its parts, and an End-of-RIB as itself
 abbrev pub handed_update : (Update → Bool) → Option ℕ → Update → List Message
 handed_update refuses (Some family) u = Message.Update (end_of family) ∷ []
 handed_update refuses None u = or_keepalive (parts_handed refuses u)
 
--- what is handed on of a message that is accepted
+-- what is passed on of a message that is accepted
 abbrev pub handed : (ℕ → Bool) → (Update → Bool) → Bool → Option ℕ → Message → Result (List Message) CleanFault
 handed drops refuses first family (Message.Open o) = handed_open first o
 handed drops refuses first family (Message.Update u) = Ok (handed_update refuses family (cleaned_update drops u))
@@ -49,7 +49,7 @@ cleaned_outcome drops refuses first family (Outcome.Took said notes) = handed dr
 cleaned_outcome drops refuses first family (Outcome.Withdraw routes notes) = Ok (Message.Update (withdrawal routes) ∷ [])
 cleaned_outcome drops refuses first family (Outcome.Reset n) = Err (CleanFault.Reset n.code n.subcode)
 
--- The messages that are handed on of one, which is the stream's first one or not, where unrecognised attributes of these types are left out, and UPDATEs
--- are refused that announce routes so; or why the cleaned stream ends before it
+-- The messages that are passed on for one, the stream's first or not, where unrecognised attributes of the types `drops` are left out, and the
+-- announcements `refuses` are refused; or why the cleaned stream ends before it
 abbrev pub cleaned : Context → (ℕ → Bool) → (Update → Bool) → Bool → frame.Message → Result (List Message) CleanFault
 cleaned ctx drops refuses first m = cleaned_outcome drops refuses first (ended_family ctx m) (out_of ctx m)

@@ -1,4 +1,4 @@
--- What came of a message that is cleaned.
+-- The result of cleaning a message.
 use Rattle.std.specs.Prelude.{◌≡◌, ℕ, List, ◌++◌, Result, Ok, Err}
 use Rattle.std.specs.List.{flat_map}
 use Rattle.bgp_open.specs.declared.context.Context.{Context}
@@ -12,7 +12,7 @@ use Rattle.bgp_clean.specs.declared.fault.CleanFault.{CleanFault}
 abbrev pub octets_handed : Context → List Message → List ℕ
 octets_handed ctx ns = flat_map (canonical ctx) ns
 
--- what is handed on stands after what was there; where the stream ends, nothing is added
+-- what is passed on is appended to what was there; where the stream ends, nothing is added
 abbrev pub IsCleaned : Context → Result (List Message) CleanFault → List ℕ → List ℕ → Cleaned → Type 0
 IsCleaned ctx (Ok ns) old new HandedOn = new ≡ old ++ octets_handed ctx ns
 IsCleaned ctx (Ok ns) old new (Ends g) = ⊥

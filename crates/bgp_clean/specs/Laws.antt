@@ -1,4 +1,4 @@
--- What the laws of cleaning say of the messages that are handed on, and of a cleaned stream.
+-- What the laws of cleaning claim of the messages that are passed on, and of a cleaned stream.
 use Rattle.std.specs.Prelude.{◌≡◌, ◌<◌, ◌≤◌, ℕ, Bool, false, List, [], ◌∷◌, length, map, take, Ok}
 use Rattle.std.specs.List.{AllByRecursion}
 use Rattle.bgp_frame.specs.declared.end.End.TheVariants as end
@@ -22,12 +22,12 @@ AreUnchanged ctx drops refuses first (n ∷ ns) = (cleaned ctx drops refuses fir
 abbrev pub AreNoLonger : Context → frame.Message → List Message → Type 0
 AreNoLonger ctx m ns = AllByRecursion (λ n. length (canonical ctx n) ≤ length (octets_of m)) ns
 
--- what a hearer learns of these messages
+-- what a receiver learns from these messages
 abbrev pub lesson_from : Context → (ℕ → Bool) → (Update → Bool) → List Message → Lesson
 lesson_from ctx drops refuses ns = all_of (map (λ n. lesson ctx drops refuses (written ctx n)) ns)
 
--- These are handed on of m: one or more whole messages that are accepted without a note, and unchanged where they are cleaned again; none longer than m;
--- and a hearer learns of them what RFC 7606 has the hearer of m learn
+-- These are passed on of m: one or more whole messages that are accepted without a note, and unchanged where they are cleaned again; none longer than
+-- m; and a receiver learns from them what RFC 7606 has the receiver of m learn
 pub record IsClean (ctx : Context) (drops : ℕ → Bool) (refuses : Update → Bool) (first : Bool) (m : frame.Message) (ns : List Message) : Type 0 where
   pub some : 0 < length ns
   pub taken : AllByRecursion (IsTakenAsItself ctx) ns
@@ -39,14 +39,14 @@ pub record IsClean (ctx : Context) (drops : ℕ → Bool) (refuses : Update → 
 abbrev pub outcome_of : Context → Message → ℕ × Outcome
 outcome_of ctx n = (length (canonical ctx n), Outcome.Took n [])
 
--- the messages that go on of each of these
+-- the messages that are passed on of each of these are no longer than it
 abbrev pub NoLonger : Context → List (List Message) → List frame.Message → Type 0
 NoLonger ctx [] ms = Unit {0}
 NoLonger ctx (ns ∷ later) [] = ⊥
 NoLonger ctx (ns ∷ later) (m ∷ ms) = AreNoLonger ctx m ns × NoLonger ctx later ms
 
 -- The cleaned stream of these messages is whole messages that are accepted without a note, and nothing after them; cleaned again it is unchanged; no
--- message is longer than the one it came from; and what a hearer learns of it is what the hearer of the first messages of the stream learns, one by one
+-- message is longer than its original; and a receiver learns from it what the receiver of the first messages of the stream learns, one by one
 pub record IsCleanStream (ctx : Context) (drops : ℕ → Bool) (refuses : Update → Bool) (ms : List frame.Message) : Type 0 where
   pub taken : Gives (stream_rules ctx) (cleaned_octets ctx drops refuses ms) (map (outcome_of ctx) (cleaned_stream ctx drops refuses ms)) (end.Wait 0)
   pub again : cleaned_each ctx drops refuses (map (written ctx) (cleaned_stream ctx drops refuses ms)) ≡ map (λ n. n ∷ []) (cleaned_stream ctx drops refuses ms)

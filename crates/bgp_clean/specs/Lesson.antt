@@ -1,4 +1,4 @@
--- What a hearer learns of a message, who reads its outcome in a context (RFC 7606, section 2).
+-- What a receiver learns from a message by its outcome in a context (RFC 7606, section 2).
 use Rattle.std.specs.Prelude.{ℕ, Bool, List, [], ◌∷◌, ◌++◌, Option, None, Some, if◌then◌else◌}
 use Rattle.std.specs.Option.{option_or}
 use Rattle.bgp_frame.specs.declared.notification.Notification.{Notification}
@@ -118,6 +118,6 @@ lesson_in drops refuses family (Outcome.Took said notes) = lesson_by drops refus
 lesson_in drops refuses family (Outcome.Withdraw routes notes) = gone_lesson routes
 lesson_in drops refuses family (Outcome.Reset n) = no_lesson
 
--- what a hearer learns of a message, where unrecognised attributes of these types are nothing to learn, and routes that are refused are withdrawn
+-- what a receiver learns from a message, where unrecognised attributes of these types are ignored, and routes that are refused are withdrawn
 abbrev pub lesson : Context → (ℕ → Bool) → (Update → Bool) → frame.Message → Lesson
 lesson ctx drops refuses m = lesson_in drops refuses (ended_family ctx m) (out_of ctx m)

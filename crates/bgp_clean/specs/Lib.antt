@@ -1,4 +1,4 @@
--- Cleaned messages and streams: what is handed on, and what a hearer learns of it.
+-- Cleaned messages and streams: what is passed on, and what a receiver learns from it.
 pub mod Opens
 pub mod Updates
 pub mod NextHops

@@ -1,4 +1,4 @@
--- Which announcements aren't handed on by what the owner sets: their routes are withdrawn.
+-- Which announcements the owner's limits refuse: their routes are withdrawn.
 use Rattle.std.specs.Prelude.{ℕ, ◌+◌, Bool, false, not, ◌&&◌, ◌||◌, ◌==◌, nat_lt, List, [], ◌∷◌, length, Option, None, Some, is_none}
 use Rattle.bgp_open.specs.declared.context.Context.{Context}
 use Rattle.bgp_prefix.specs.declared.as_number.AsNumber.{AsNumber}
@@ -12,7 +12,7 @@ use Rattle.bgp_update.specs.Prelude.{written_body}
 use Rattle.bgp_clean.specs.declared.limits.Limits.{Limits}
 use Rattle.bgp_clean.specs.NextHops.{has_host_hops}
 
--- nothing is set
+-- no limit is set
 abbrev pub no_limits : Limits
 no_limits = record { host_next_hops = false; local_pref = false; first_as = None; longest_path = None; most_communities = None; room = 0 }
 
@@ -53,9 +53,9 @@ abbrev pub is_from_another : Option ℕ → Option AsPath → Bool
 is_from_another None path = false
 is_from_another (Some number) path = not (is_from number path)
 
--- ---- what isn't handed on
+-- ---- what isn't passed on
 
--- the attributes of an announcement break what is set
+-- the attributes of an announcement violate the limits
 abbrev pub breaks : Limits → Update → Bool
 breaks l u =
     (l.host_next_hops && not (has_host_hops u)) || (
@@ -64,7 +64,7 @@ breaks l u =
     is_above l.longest_path (path_length u.attrs.as_path) ||
     is_above l.most_communities (community_count u.attrs.communities))))
 
--- the message, of 19 octets more, leaves fewer of 4096 free than are set
+-- the message, with its header of 19 octets, leaves fewer of 4096 octets free than the limit
 abbrev pub leaves_no_room : Limits → Context → Update → Bool
 leaves_no_room l ctx u = nat_lt 4077 (length (written_body ctx u) + l.room)
 

@@ -1,4 +1,4 @@
--- Which next hops are hosts' addresses (RFC 4271, section 6.3; RFC 2545, section 3).
+-- Which next hops are host addresses (RFC 4271, section 6.3; RFC 2545, section 3).
 use Rattle.std.specs.Prelude.{ℕ, Bool, true, not, ◌&&◌, ◌||◌, ◌==◌, nat_lt, List, take, slice_index, Option, None, Some}
 use Rattle.std.specs.List.{list_any}
 use Rattle.bgp_attr.specs.declared.mp.MpReach.{MpReach}
@@ -34,6 +34,6 @@ abbrev pub has_host_next_hop : Option (List ℕ) → Bool
 has_host_next_hop None = true
 has_host_next_hop (Some hop) = is_host4 hop
 
--- each next hop of an UPDATE is a host's address: that of IPv6 a global one, with a link-local one after it where there are two
+-- each next hop of an UPDATE is a host address: that of IPv6 a global one, with a link-local one after it where there are two
 abbrev pub has_host_hops : Update → Bool
 has_host_hops u = has_host_next_hop u.attrs.next_hop && has_host_reach u.attrs.mp_reach

@@ -1,4 +1,4 @@
--- What goes on of an OPEN: the capabilities that are understood, so that nothing is agreed on that the stream would then hold.
+-- What is passed on of an OPEN: the capabilities that are understood, so that nothing is agreed on beyond what the cleaned stream supports.
 use Rattle.std.specs.Prelude.{Bool, true, false, ◌||◌, List, [], ◌∷◌, if◌then◌else◌}
 use Rattle.std.specs.List.{list_any}
 use Rattle.bgp_numbers.specs.declared.afi.TheConstants.{IPV4, IPV6}
@@ -7,7 +7,7 @@ use Rattle.bgp_open.specs.declared.capability.Capability.TheVariants.{Multi, As4
 use Rattle.bgp_open.specs.declared.message.Open.{Open}
 use Rattle.bgp_open.specs.Prelude.{is_unicast}
 
--- which of the three were there before: IPv4 unicast, IPv6 unicast, AS numbers of four octets
+-- which of the three occurred before: IPv4 unicast, IPv6 unicast, 4-octet AS numbers
 pub record Seen : Type 0 where
   pub ip4 : Bool
   pub ip6 : Bool
@@ -29,7 +29,7 @@ seen_behind seen (Multi family subsequent) =
 seen_behind seen (As4 number) = record seen { as4 = true }
 seen_behind seen (Other code value) = seen
 
--- those that go on, in their order
+-- those that are passed on, in their order
 abbrev pub understood_behind : Seen → List Capability → List Capability
 understood_behind seen [] = []
 understood_behind seen (c ∷ later) =
@@ -45,7 +45,7 @@ abbrev pub is_multi : Capability → Bool
 is_multi (Multi family subsequent) = true
 is_multi _ = false
 
--- it offers families, and neither IPv4 nor IPv6 unicast. Without a family a speaker takes IPv4 unicast for granted (RFC 4760, section 8), so none
--- may be left of some
+-- it offers families, and neither IPv4 nor IPv6 unicast. A speaker without a family is assumed to use IPv4 unicast (RFC 4760, section 8), so
+-- dropping all that it offers would change its meaning
 abbrev pub lacks_family : Open → Bool
 lacks_family o = if list_any is_multi o.caps then (if list_any (is_unicast IPV4) o.caps || list_any (is_unicast IPV6) o.caps then false else true) else false

@@ -1,4 +1,4 @@
--- A cleaned stream: what is handed on of each message, up to the first of which nothing is.
+-- A cleaned stream: what is passed on of each message, up to the first of which nothing is.
 use Rattle.std.specs.Prelude.{ℕ, Bool, true, false, List, [], ◌∷◌, ◌++◌, Result, Ok, Err}
 use Rattle.bgp_frame.specs.Frame as frame
 use Rattle.bgp_open.specs.declared.context.Context.{Context}
@@ -8,7 +8,7 @@ use Rattle.bgp_clean.specs.declared.fault.CleanFault.{CleanFault}
 use Rattle.bgp_clean.specs.Clean.{cleaned}
 use Rattle.bgp_clean.specs.Cleaned.{octets_handed}
 
--- what goes on of one message, and of each of those after it
+-- what is passed on of one message, and of each of those after it
 abbrev pub handed_then : Result (List Message) CleanFault → List (List Message) → List (List Message)
 handed_then (Ok ns) later = ns ∷ later
 handed_then (Err f) later = []
@@ -21,7 +21,7 @@ cleaned_from ctx drops refuses first (m ∷ later) = handed_then (cleaned ctx dr
 abbrev pub cleaned_each : Context → (ℕ → Bool) → (Update → Bool) → List frame.Message → List (List Message)
 cleaned_each ctx drops refuses messages = cleaned_from ctx drops refuses true messages
 
--- all of them, one after the other
+-- all of them, in order
 abbrev pub joined_messages : List (List Message) → List Message
 joined_messages [] = []
 joined_messages (ns ∷ later) = ns ++ joined_messages later

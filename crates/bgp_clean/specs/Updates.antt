@@ -1,4 +1,4 @@
--- The messages that stand for an UPDATE: what is gone, then NLRI, then MP_REACH_NLRI, none of which mixes with another (RFC 7606, section 5.1).
+-- The messages that replace an UPDATE: withdrawn routes, then NLRI, then MP_REACH_NLRI, none of which mixes with another (RFC 7606, section 5.1).
 use Rattle.std.specs.Prelude.{ℕ, Bool, ◌||◌, ◌==◌, nat_lt, List, [], ◌∷◌, ◌++◌, length, Option, None, Some, if◌then◌else◌}
 use Rattle.bgp_numbers.specs.declared.afi.TheConstants.{IPV6}
 use Rattle.bgp_prefix.specs.Prelude.{PrefixValue}
@@ -57,7 +57,7 @@ reached_part u = record {
   nlri = reached_ip4 u.attrs.mp_reach;
 }
 
--- ---- all parts, each where it has routes. An announcement that is refused goes on as the withdrawal of its routes
+-- ---- all parts, each where it has routes. An announcement that is refused is passed on as the withdrawal of its routes
 
 abbrev pub listed : Bool → Update → List Update
 listed there u = if there then u ∷ [] else []

@@ -1,4 +1,4 @@
-//! Whether an announcement breaks what the owner sets.
+//! Whether an announcement violates the owner's limits.
 
 ghost use Rattle.std.specs.List.{list_any};
 ghost use Rattle.std.specs.Prelude.{◌≡◌, ◌&&◌, ◌==◌, not, true, nat_lt, length, option_map};
@@ -49,7 +49,7 @@ fn is_host6(address: &[u8; 16]) -> bool
     address[0] != 255 && !is_link_local(address) && is_above_one(address)
 }
 
-/// Whether a link-local next hop is one, where it is there.
+/// Whether a link-local next hop is a link-local address, where it is present.
 fn is_link_hop(link: &Option<[u8; 16]>) -> bool
     ensures { result ≡ is_link_hop link.now }
 {
@@ -59,7 +59,7 @@ fn is_link_hop(link: &Option<[u8; 16]>) -> bool
     }
 }
 
-/// Whether NEXT_HOP is a host's address, where it is there.
+/// Whether NEXT_HOP is a host address, where it is present.
 pub(crate) fn has_host_next_hop(hop: Option<[u8; 4]>) -> bool
     ensures { result ≡ has_host_next_hop hop }
 {
@@ -69,7 +69,7 @@ pub(crate) fn has_host_next_hop(hop: Option<[u8; 4]>) -> bool
     }
 }
 
-/// Whether the next hops of MP_REACH_NLRI are hosts' addresses, where it is there.
+/// Whether the next hops of MP_REACH_NLRI are host addresses, where it is present.
 pub(crate) fn has_host_reach(reach: &Option<MpReachView<'_>>) -> bool
     ensures { result ≡ has_host_reach (option_map reach_value reach.now) }
 {
@@ -137,7 +137,7 @@ pub(crate) fn are_too_many(most: Option<u16>, communities: &Option<CommunitiesVi
     }
 }
 
-/// Whether a segment is a sequence from this AS number on.
+/// Whether a segment is a sequence that begins with this AS number.
 fn is_sequence_from(number: u32, segment: &SegmentView<'_>) -> bool
     ensures { result ≡ is_sequence_from number (segment_value segment.now).kind (segment_value segment.now).numbers }
 {
@@ -148,7 +148,7 @@ fn is_sequence_from(number: u32, segment: &SegmentView<'_>) -> bool
     }
 }
 
-/// Whether a path is from this AS number.
+/// Whether a path begins with this AS number.
 fn is_from(number: u32, path: &Option<PathView<'_>>) -> bool
     ensures { result ≡ is_from number (option_map path_value path.now) }
 {
@@ -162,7 +162,7 @@ fn is_from(number: u32, path: &Option<PathView<'_>>) -> bool
     }
 }
 
-/// Whether a path isn't from the neighbour, where that is asked for.
+/// Whether a path doesn't begin with the neighbour's AS number, where that is required.
 pub(crate) fn is_from_another(number: Option<u32>, path: &Option<PathView<'_>>) -> bool
     ensures { result ≡ is_from_another number (option_map path_value path.now) }
 {
@@ -172,14 +172,14 @@ pub(crate) fn is_from_another(number: Option<u32>, path: &Option<PathView<'_>>) 
     }
 }
 
-/// Whether the next hops of a part aren't hosts' addresses, where that is asked for.
+/// Whether the next hops of a part aren't host addresses, where that is required.
 fn has_bad_hop(limits: &Limits, part: &PartView<'_, '_, '_>) -> bool
     ensures { result ≡ (limits.now.host_next_hops && not (has_host_hops (part_value part.now))) }
 {
     limits.host_next_hops && !(has_host_next_hop(part.next_hop()) && has_host_reach(&part.reach()))
 }
 
-/// Whether a part that announces routes breaks what the owner sets.
+/// Whether a part that announces routes violates the owner's limits.
 pub(crate) fn breaks(limits: &Limits, part: &PartView<'_, '_, '_>) -> bool
     requires { is_announcing part.now.part ≡ true }
     ensures { result ≡ breaks limits.now (part_value part.now) }

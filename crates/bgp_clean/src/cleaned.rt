@@ -1,11 +1,11 @@
-//! What came of a message that is cleaned.
+//! The result of cleaning a message.
 
 use crate::fault::CleanFault;
 
-/// What came of a message.
+/// The result for a message.
 #[derive(Clone, Copy, Debug, PartialEq, Eq)]
 pub enum Cleaned {
-    /// It is handed on, or what stands for it is.
+    /// It is passed on, or its replacement is.
     HandedOn,
     /// The cleaned stream ends before it.
     Ends(CleanFault),

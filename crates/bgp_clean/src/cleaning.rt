@@ -37,7 +37,7 @@ fn clean_withdrawal<O: Output>(
     Ok(Cleaned::HandedOn)
 }
 
-/// Appends a message as it came, which is as it is written.
+/// Appends a message unchanged: it is in its one written form already.
 fn pass_on<O: Output>(ctx: &Context, frame: Frame<'_>, out: &mut O) -> Result<Cleaned, AllocError>
     requires { IsLength frame.kind (19 + length frame.body.now) }
     ensures value { (n : Message) → canonical ctx.now n ≡ octets_of (message_in frame.entry) → IfOk result (λ c. IsCleaned ctx.now (Ok (n ∷ [])) (O.written out.old) (O.written out.new) c) }
@@ -48,10 +48,11 @@ fn pass_on<O: Output>(ctx: &Context, frame: Frame<'_>, out: &mut O) -> Result<Cl
     Ok(Cleaned::HandedOn)
 }
 
-/// Appends what is handed on of a whole message in a context, as one or more whole messages in their one written form, or says why the cleaned stream
-/// ends before it. An UPDATE goes on by its parts: the routes that are gone, those of NLRI, those of MP_REACH_NLRI; routes of IPv4 in the classic fields.
-/// Unrecognised attributes of the types in `drops` are left out; routes whose announcement `limits` refuse are withdrawn; `first` says whether the message
-/// is the first one of its stream, which an OPEN has to be. It takes no memory but for the growth of a vector, and never fails where there is room for
+/// Appends what is passed on of a whole message in a context, as one or more whole messages in their one written form,
+/// or says why the cleaned stream ends before it. An UPDATE is passed on in its parts: withdrawn routes, those of NLRI,
+/// those of MP_REACH_NLRI; IPv4 routes in the classic fields. Unrecognised attributes of the types in `drops` are left
+/// out; routes whose announcement `limits` refuse are withdrawn; `first` says whether the message is the first one of
+/// its stream, which an OPEN has to be. It allocates only to grow a vector, and never fails where there is room for
 /// 12,288 octets more, as in an empty [`Page<12288>`](bgp_wire::Page).
 ///
 /// # Errors

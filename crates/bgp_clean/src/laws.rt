@@ -10,20 +10,21 @@ ghost use Rattle.bgp_update.specs.Prelude.{written_body};
 ghost use Rattle.bgp_msg.specs.declared.message.Message.{Message};
 ghost use Rattle.bgp_clean.specs.Prelude.{cleaned, no_limits, refuses_in, IsClean, IsCleanStream};
 
-/// What is handed on of a message is one or more messages that are accepted without a note in the same context, and unchanged where they are cleaned
-/// again; none is longer than the message; and they teach a hearer what RFC 7606 has the hearer of the message learn: whichever announcements are
-/// refused.
+/// What is passed on of a message is one or more messages that are accepted without a note in the same context, and
+/// unchanged where they are cleaned again; none is longer than the message; and a receiver learns from them what RFC
+/// 7606 has the receiver of the message learn: whichever announcements are refused.
 pub fn what_is_handed_on_is_clean()
     ensures { (ctx : Context) (drops : ℕ → Bool) (refuses : Update → Bool) (first : Bool) (m : frame.Message) (octets : List ℕ) (ns : List Message)
         → AreOctets octets → IsFrame m octets → cleaned ctx drops refuses first m ≡ Ok ns → IsClean ctx drops refuses first m ns }
 {}
 
-/// Where nothing is set, no announcement is refused that can be written.
+/// Where no limit is set, no announcement is refused that can be written.
 pub fn nothing_is_refused_without_limits()
     ensures { (ctx : Context) (u : Update) → length (written_body ctx u) ≤ 4077 → refuses_in ctx no_limits u ≡ false }
 {}
 
-/// So it is with the messages of a stream: its cleaned stream is a row of whole messages that are accepted without a note.
+/// So it is with the messages of a stream: its cleaned stream is a sequence of whole messages that are accepted without
+/// a note.
 pub fn a_cleaned_stream_is_clean()
     ensures { (ctx : Context) (drops : ℕ → Bool) (refuses : Update → Bool) (ms : List frame.Message) (octets : List ℕ)
         → AreOctets octets → Row IsFrame ms octets → IsCleanStream ctx drops refuses ms }

@@ -1,4 +1,4 @@
-//! Cleaned messages: whatever comes, what is handed on is well formed, and says what RFC 7606 has a hearer learn.
+//! Cleaned messages: whatever arrives, what is passed on is well formed, and says what RFC 7606 has a receiver learn.
 #![tactic(auto)]
 
 mod checking;

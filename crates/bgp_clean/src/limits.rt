@@ -1,9 +1,9 @@
-//! What the owner of a cleaned stream sets: announcements beyond it are withdrawn.
+//! The limits of a cleaned stream: announcements beyond them are withdrawn.
 
-/// Which announcements aren't handed on, though they are well formed: their routes are withdrawn (treat-as-withdraw).
+/// Which announcements aren't passed on, though they are well formed: their routes are withdrawn (treat-as-withdraw).
 #[derive(Clone, Copy, Debug, PartialEq, Eq)]
 pub struct Limits {
-    /// Those by a next hop that isn't a host's address (RFC 4271, section 6.3; RFC 2545, section 3).
+    /// Those by a next hop that isn't a host address (RFC 4271, section 6.3; RFC 2545, section 3).
     pub host_next_hops: bool,
     /// Those without LOCAL_PREF (RFC 4271, section 5.1.5).
     pub local_pref: bool,

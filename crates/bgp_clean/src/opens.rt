@@ -1,4 +1,4 @@
-//! What is handed on of an OPEN.
+//! What is passed on of an OPEN.
 
 ghost use Rattle.std.specs.Prelude.{◌≡◌, ◌+◌, ◌<◌, ◌≤◌, ◌||◌, ◌++◌, false, length, IfOk, OnOk, OnErr};
 ghost use Rattle.bgp_msg.specs.declared.message.Message.TheVariants as message;
@@ -17,14 +17,14 @@ use bgp_open::{CapabilityIter, CapabilityView, Context, OpenView, open_body};
 use bgp_wire::Output;
 use std::alloc::AllocError;
 
-/// Which of the capabilities that are understood were there before.
+/// Which of the capabilities that are understood occurred before.
 #[derive(Clone, Copy)]
 struct Seen {
     /// IPv4 unicast (RFC 4760, section 8).
     ip4: bool,
     /// IPv6 unicast.
     ip6: bool,
-    /// AS numbers of four octets (RFC 6793, section 3).
+    /// 4-octet AS numbers (RFC 6793, section 3).
     as4: bool,
 }
 
@@ -40,7 +40,7 @@ impl Seen {
         }
     }
 
-    /// Whether a capability goes on: it is understood, and the first of its kind.
+    /// Whether a capability is passed on: it is understood, and the first of its kind.
     fn goes_on(&self, capability: &CapabilityView<'_>) -> bool
         ensures { result ≡ goes_on (seen_value self.now) (capability_value capability.now) }
     {
@@ -52,7 +52,7 @@ impl Seen {
         }
     }
 
-    /// Behind a capability.
+    /// Records a capability.
     fn add(&mut self, capability: &CapabilityView<'_>)
         ensures { seen_value self.new ≡ seen_behind (seen_value self.old) (capability_value capability.now) }
     {
@@ -110,7 +110,7 @@ fn understood(capabilities: CapabilityIter<'_>) -> ArrayVec<u8, 253>
     row
 }
 
-/// How many capabilities of an OPEN go on: those that are understood, each of a kind once.
+/// The number of capabilities of an OPEN that are passed on: those that are understood, each of a kind once.
 pub fn count_understood(view: &OpenView<'_>) -> usize
     ensures { result ≡ length (understood (open_value view.now).caps) }
 {
@@ -160,7 +160,7 @@ fn lacks_family(view: &OpenView<'_>) -> bool
     offers && !in_use
 }
 
-/// Appends a whole OPEN, with the capabilities that are understood alone.
+/// Appends a whole OPEN, with only the capabilities that are understood.
 fn put_open<O: Output>(ctx: &Context, view: &OpenView<'_>, out: &mut O) -> Result<(), AllocError>
     requires { is_bad (cleaned_open (open_value view.now)) ≡ false }
     ensures ok { OnOk result (O.written out.new ≡ O.written out.old ++ canonical ctx.now (message.Open (cleaned_open (open_value view.now)))) }
@@ -172,7 +172,7 @@ fn put_open<O: Output>(ctx: &Context, view: &OpenView<'_>, out: &mut O) -> Resul
     put_whole(ctx, &Body::Same(Kind::Open, body.as_slice()), out)
 }
 
-/// Appends what is handed on of an OPEN, or says why the stream ends before it.
+/// Appends what is passed on of an OPEN, or says why the stream ends before it.
 ///
 /// # Errors
 /// `AllocError` where there was no room; nothing is appended then.

@@ -1,4 +1,4 @@
-//! The messages that stand for an UPDATE, each with routes of one field (RFC 7606, section 5.1).
+//! The messages that replace an UPDATE, each with routes of one field (RFC 7606, section 5.1).
 
 ghost use Rattle.std.specs.Prelude.{◌≡◌, ◌+◌, ◌<◌, ◌≤◌, ◌++◌, ◌==◌, [], true, false, length, option_map, OnOk, OnErr};
 ghost use Rattle.bgp_numbers.specs.declared.attribute.TheConstants.{NEXT_HOP, MP_REACH_NLRI, MP_UNREACH_NLRI};
@@ -17,10 +17,10 @@ use bgp_update::{Chosen, ClassicRoutes, HasAttributes, UpdateView, write_body};
 use bgp_wire::Output;
 use std::alloc::AllocError;
 
-/// A message that stands for some routes of an UPDATE.
+/// A message with some routes of an UPDATE.
 #[derive(Clone, Copy)]
 pub(crate) enum Part {
-    /// It withdraws the routes that are gone.
+    /// It withdraws the withdrawn routes.
     Gone,
     /// It announces those of NLRI.
     Nlri,
@@ -32,7 +32,7 @@ pub(crate) enum Part {
     ReachedGone,
 }
 
-/// A part of an UPDATE with the attributes that are chosen.
+/// A part of an UPDATE with the chosen attributes.
 #[derive(Clone, Copy)]
 pub(crate) struct PartView<'c, 'b, 'a> {
     pub(crate) chosen: &'c Chosen<'b, 'a>,
@@ -244,7 +244,7 @@ impl<'a> PartView<'_, '_, 'a> {
         }
     }
 
-    /// Whether the part is all of the UPDATE, as it mostly is: that is written in fewer steps.
+    /// Whether the part is all of the UPDATE (the common case), which is written in fewer steps.
     fn is_whole(&self) -> bool
         ensures { result ≡ true → part_value self.now ≡ chosen_update self.now.chosen.now }
     {

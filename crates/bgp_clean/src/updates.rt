@@ -1,4 +1,4 @@
-//! What is handed on of an UPDATE.
+//! What is passed on of an UPDATE.
 
 ghost use Rattle.std.specs.Prelude.{◌≡◌, ◌+◌, ◌<◌, ◌≤◌, ◌++◌, [], ◌∷◌, true, if◌then◌else◌, is_some, None, Ok, length, IfOk, OnOk, OnErr};
 ghost use Rattle.bgp_frame.specs.Prelude.{message_in};
@@ -68,7 +68,7 @@ fn announce<O: Output>(
     put_part(ctx, chosen, gone, out)
 }
 
-/// Appends the message that withdraws what is gone, where there are such routes.
+/// Appends the message with the withdrawn routes, where there are some.
 fn put_gone<O: Output>(
     ctx: &Context,
     chosen: &Chosen<'_, '_>,
@@ -88,7 +88,7 @@ fn put_gone<O: Output>(
     }
 }
 
-/// Appends what goes on of NLRI, where there are such routes.
+/// Appends what is passed on of NLRI, where it has routes.
 fn put_nlri<O: Output>(
     ctx: &Context,
     limits: &Limits,
@@ -109,7 +109,7 @@ fn put_nlri<O: Output>(
     }
 }
 
-/// Appends what goes on of MP_REACH_NLRI, where there are such routes.
+/// Appends what is passed on of MP_REACH_NLRI, where it has routes.
 fn put_reached<O: Output>(
     ctx: &Context,
     limits: &Limits,
@@ -130,7 +130,7 @@ fn put_reached<O: Output>(
     }
 }
 
-/// Appends all parts; some octets may stay where there was no room.
+/// Appends all parts; some octets may remain where there was no room.
 fn put_parts<O: Output>(
     ctx: &Context,
     limits: &Limits,
@@ -147,7 +147,7 @@ fn put_parts<O: Output>(
     put_reached(ctx, limits, chosen, out)
 }
 
-/// The same; where there was no room, nothing is appended.
+/// As `put_parts`, but appends nothing where there was no room.
 fn put_all<O: Output>(
     ctx: &Context,
     limits: &Limits,
@@ -169,7 +169,8 @@ fn put_all<O: Output>(
     }
 }
 
-/// Appends what is handed on of an UPDATE with these attributes, which is no End-of-RIB: a KEEPALIVE where it has no routes.
+/// Appends what is passed on of an UPDATE with these attributes, which isn't an End-of-RIB: a KEEPALIVE where it has no
+/// routes.
 #[inline(always)]
 fn put_chosen<O: Output>(
     ctx: &Context,
@@ -190,7 +191,7 @@ fn put_chosen<O: Output>(
     }
 }
 
-/// The same, of an UPDATE that keeps attributes of types that aren't recognised: these are sorted first.
+/// As `put_chosen`, of an UPDATE that keeps attributes of types that aren't recognised: these are sorted first.
 #[inline(never)]
 fn put_sorted<O: Output>(
     ctx: &Context,
@@ -211,7 +212,7 @@ fn put_sorted<O: Output>(
     put_chosen(ctx, limits, &chosen, out)
 }
 
-/// The same, of any.
+/// As `put_chosen`, for any UPDATE.
 fn put_update<O: Output>(
     ctx: &Context,
     drops: &OctetSet,
@@ -261,7 +262,7 @@ fn ended(ctx: &Context, frame: Frame<'_>) -> Option<u16>
     }
 }
 
-/// Appends what is handed on of an UPDATE that is accepted, without the attributes that are left out by type.
+/// Appends what is passed on of an UPDATE that is accepted, without the attributes that are left out by type.
 ///
 /// # Errors
 /// `AllocError` where there was no room; nothing is appended then.

@@ -1,4 +1,4 @@
-//! A whole message that is handed on: room for a header comes first, then the body, then the header.
+//! A whole message that is passed on: room for a header comes first, then the body, then the header.
 
 ghost use Rattle.std.specs.Prelude.{◌≡◌, ◌+◌, ◌<◌, ◌≤◌, ◌++◌, length, OnOk, OnErr};
 ghost use Rattle.bgp_frame.specs.Prelude.{octets_of, IsLength};
@@ -12,7 +12,7 @@ use bgp_update::{Chosen, UpdateView};
 use bgp_wire::Output;
 use std::alloc::AllocError;
 
-/// A body that is handed on.
+/// A body that is passed on.
 #[derive(Clone, Copy)]
 pub(crate) enum Body<'c, 'b, 'a> {
     /// Of a part of an UPDATE.
@@ -21,7 +21,7 @@ pub(crate) enum Body<'c, 'b, 'a> {
     Update(&'c Chosen<'b, 'a>),
     /// Of the UPDATE that withdraws the routes of one.
     Withdrawal(&'c UpdateView<'a>),
-    /// Of a message of this kind, as it came.
+    /// Of a message of this kind, unchanged.
     Same(Kind, &'c [u8]),
 }
 

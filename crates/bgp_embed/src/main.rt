@@ -1,4 +1,4 @@
-//! A session in a host's own program: what the peer says stands here, and what is to be done is printed.
+//! A session in a host's own program: what the peer says is written here, and what is to be done is printed.
 #![tactic(auto)]
 
 use bgp_frame::{Kind, head};
@@ -8,7 +8,7 @@ use bgp_open::{Config, own_frame};
 use bgp_update::{PathInfo, Routes, Update};
 use std::io;
 
-/// Prints what it is asked, in place of doing it.
+/// Prints what it is asked to do, and does none of it.
 #[derive(Clone, Copy)]
 struct Paper<'a> {
     rt: &'a HostRuntime,

@@ -1,4 +1,4 @@
--- One block of text: as it stands, or as hexadecimal text.
+-- One block of text: raw octets, or hexadecimal text.
 use Rattle.bgp_engine.proofs.Prelude.{◌≡◌, ℕ, Bool, true, false, List, [], ◌++◌, Option, Some, None, sym, ap, subst, ◌∙◌, option_to_list}
 use Rattle.bgp_engine.proofs.Prelude.{MatchOption, append-nil, HexText, spelled, pending, Continues, Breaks, IsFront, Takes, Reports, stream_of}
 use Rattle.bgp_engine.proofs.Prelude.{MeetsOver}
@@ -18,7 +18,7 @@ front_hex hex old new block octets bad is d later = subst (λ (h : Bool). IsFron
     decodes_front None c = (spelled (pending new ++ later), c.spells later)
     decodes_front (Some n) b = ([], b.spells later ∙ sym (append-nil octets))
 
--- ---- a block behind which the stream is over
+-- ---- a block after which the stream is over
 
 module _ (hex : Bool) (reader reader1 : HexText) (old new : Reports) (going : Type 0) (told0 told1 block : List ℕ) where
   pub MeetsOver-raw : (over : Bool) → hex ≡ false → (hex ≡ false → reader.pending ≡ None) → Takes old new going told0 told1 block over → over ≡ true → MeetsOver hex reader reader1 old new going told0 told1 block

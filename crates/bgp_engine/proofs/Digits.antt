@@ -11,7 +11,7 @@ encode_lower-append (x ∷ a) b = ap (λ (t : List ℕ). slice_index lower_digit
 pub hex_line_is : (m : Message) → encode_lower (header m.kind (19 + length m.body)) ++ (encode_lower m.body ++ 10 ∷ []) ≡ hex_line m
 hex_line_is m = sym (append_assoc (encode_lower (header m.kind (19 + length m.body))) (encode_lower m.body) (10 ∷ [])) ∙ ap (λ (t : List ℕ). t ++ 10 ∷ []) (sym (encode_lower-append (header m.kind (19 + length m.body)) m.body))
 
--- the same behind a text, where the newline could be added
+-- the same appended to a text, where the newline could be added
 pub ok_hex_line : {E : Type 0} (r : Result (Unit {0}) E) (m : Message) (old head one two three : List ℕ)
     → head ≡ header m.kind (19 + length m.body) → one ≡ old ++ encode_lower head → two ≡ one ++ encode_lower m.body
     → three ≡ (if is_ok r then two ++ 10 ∷ [] else two) → OnOk r (three ≡ old ++ hex_line m)

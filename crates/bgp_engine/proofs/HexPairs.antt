@@ -1,9 +1,9 @@
--- Pairs of digits, and text behind them.
+-- Pairs of digits, and text after them.
 use Rattle.bgp_engine.proofs.Prelude.{◌≡◌, ℕ, zero, suc, ◌+◌, ◌-◌, ◌*◌, ◌<◌, ◌≤◌, Bool, true, false, cond, ◌&&◌, ◌||◌, eqb, leb, List, [], ◌∷◌, Some, None}
 use Rattle.bgp_engine.proofs.Prelude.{refl, sym, subst, ◌∙◌, arith, inl, inr, leb-true, and_parts, or_cases, false_from_ne_true, false≢true, unwrap_or}
 use Rattle.bgp_engine.proofs.Prelude.{eqb-true, is_hex_digit, AreOctets, AreOctets-nil, is_blank, digit_value, spelled, bad_from}
 
--- ---- one character at the front of a text
+-- ---- the first character of a text
 
 blank_is_no_digit : (c : ℕ) → is_blank c ≡ true → is_hex_digit c ≡ false
 blank_is_no_digit c e =
@@ -70,7 +70,7 @@ pub spelled-nil : spelled [] ≡ []
 unfolding spelled
 spelled-nil = refl
 
--- ---- what text spells are octets
+-- ---- what hexadecimal text decodes to are octets
 
 value_bound : (b1 b2 b3 : Bool) (c : ℕ) → (b1 ≡ true → c ≤ 70) → (b2 ≡ true → c ≤ 102) → (b3 ≡ true → c ≤ 57) → unwrap_or (cond b1 (Some (c - 55)) (cond b2 (Some (c - 87)) (cond b3 (Some (c - 48)) None))) 0 < 16
 value_bound true b2 b3 c p q r = let le = p refl in omega arith

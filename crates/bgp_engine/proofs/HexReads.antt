@@ -1,4 +1,4 @@
--- What a reader of hexadecimal text makes of one character.
+-- The effect of one character on a reader of hexadecimal text.
 use Rattle.bgp_engine.proofs.Prelude.{◌≡◌, ℕ, ◌+◌, ◌-◌, ◌*◌, ◌<◌, ◌≤◌, true, false, List, [], ◌∷◌, ◌++◌, length, Option, Some, None, refl, sym, ap, subst}
 use Rattle.bgp_engine.proofs.Prelude.{◌∙◌, append_assoc, add-zero, arith, append-nil, length-append, option_to_list, option_map, is_hex_digit, HexText}
 use Rattle.bgp_engine.proofs.Prelude.{is_blank, digit_value, spelled, bad_from, FirstPair, IsPair, pending, place, Continues, Breaks, ReadsPairs, AreOctets}
@@ -9,7 +9,7 @@ module _ (old new : HexText) (c : ℕ) where
   pending_is : (reader : HexText) (o : Option ℕ) → reader.pending ≡ o → pending reader ≡ option_to_list o
   pending_is reader o e = ap option_to_list e
 
-  -- the place at which a text goes on, with the pending text p
+  -- the offset at which a text continues, with the pending text p
   bad_on : (n : ℕ) (later : List ℕ) → n ≡ new.seen → new.pending ≡ None → bad_from n later ≡ bad_from (place new) (pending new ++ later)
   bad_on n later count is =
       ap (λ (k : ℕ). bad_from k later) (let same : n ≡ new.seen - 0 = omega arith in same) ∙ ap (λ (p : List ℕ). bad_from (new.seen - length p) (p ++ later)) (sym (pending_is new None is))
@@ -43,7 +43,7 @@ module _ (old new : HexText) (c : ℕ) where
     counts = count;
   }
 
-  -- a character in a pair that is no digit
+  -- a character in a pair that isn't a digit
   pub breaks_pair : (high : ℕ) → old.pending ≡ Some high → 0 < old.seen → is_hex_digit high ≡ true → is_hex_digit c ≡ false → Breaks old (c ∷ []) [] old.seen
   breaks_pair high was some first second = record {
     spells = λ later. ap (λ (p : List ℕ). spelled (p ++ (c ∷ later))) (pending_is old (Some high) was) ∙ spelled-half high c later first second;
@@ -79,9 +79,9 @@ Continues-then a b c text more octets others p q = record {
   counts = q.counts ∙ ap (λ (n : ℕ). n + length more) p.counts ∙ (let same : a.seen + length text + length more ≡ a.seen + length (text ++ more) = omega (arith, length-append text more) in same);
 }
 
--- ---- pairs from the front of a text
+-- ---- pairs from the beginning of a text
 
--- the reader behind so many characters more, with the same digit waiting
+-- the reader after n more characters, with the same pending digit
 abbrev pub read_on : HexText → ℕ → HexText
 read_on a n = record { pending = a.pending; seen = a.seen + n; is_digit = a.is_digit; is_seen = λ c is. omega (arith, a.is_seen c is) }
 
@@ -128,9 +128,9 @@ ReadsPairs-more a text rest behind was octets last octet p none f lt put =
     ReadsPairs-next a (read_on a (length text - length rest)) (read_on a (length text - length behind)) text rest behind was octets last octet p none f refl
     (omega (arith, ap length f.splits, ap length p.splits, length-append p.front rest)) lt put
 
--- ---- the characters of a block in turn
+-- ---- the characters of a block in order
 
--- what is read of a text so far
+-- the part of a text read so far
 pub record Decodes (start : HexText) (text rest octets : List ℕ) (now : HexText) : Type 0 where
   pub front : List ℕ
   pub splits : text ≡ front ++ rest
@@ -164,7 +164,7 @@ option_short (Some x) = omega arith
 pub pending_short : (reader : HexText) → length (pending reader) ≤ 1
 pending_short reader = option_short reader.pending
 
--- ---- the digit that waits
+-- ---- the pending digit
 
 pub some_waits : (o : Option ℕ) (m n : ℕ) → option_map (λ (x : ℕ). m) o ≡ Some n → (c : ℕ) × (o ≡ Some c) × (n ≡ m)
 some_waits None m n e = absurd cc

@@ -1,4 +1,4 @@
--- An UPDATE that is accepted where AS numbers have four octets can be told to a speaker with two.
+-- An UPDATE that is accepted with 4-octet AS numbers can be sent to a speaker with 2-octet ones.
 use Rattle.bgp_engine.proofs.Prelude.{◌≡◌, ◌≤◌, ◌+◌, ℕ, true, length, arith, List, Option, Some, None, Result, Ok, Err, refl, subst, le-ltb, AreOctets}
 use Rattle.bgp_engine.proofs.Prelude.{IsLength, Context, Open, open_notification, reading_of, CanBeTold, written_body, verdict_of, of_open_fault, of_reading}
 use Rattle.bgp_engine.proofs.Prelude.{of_verdict, of_body}

@@ -1,4 +1,4 @@
--- What a run keeps from one block to the next, and what follows from it where it stops.
+-- The invariant of a run from one block to the next, and what follows from it where it stops.
 use Rattle.bgp_engine.proofs.Prelude.{◌≡◌, ℕ, ◌+◌, ◌-◌, ◌*◌, ◌≤◌, Bool, true, false, List, [], ◌∷◌, ◌++◌, length, take, Option, Some, None, refl, sym, ap}
 use Rattle.bgp_engine.proofs.Prelude.{subst, ◌∙◌, append_assoc, arith, inl, inr, option_to_list, Result, Ok, Err, Consumes, Appends, IsAtEnd, Keeps}
 use Rattle.bgp_engine.proofs.Prelude.{Consumes-nil, Consumes-trans, Consumes-kept, Appends-nil, Appends-trans, append-nil, AreOctets, AreOctets-nil}
@@ -8,7 +8,7 @@ use Rattle.bgp_engine.proofs.Prelude.{IsAllRead, Finishes, IsBadAt, Fails, Answe
 use Rattle.bgp_engine.proofs.HexPairs.{spelled-nil, spelled-digit, spelled-octets, bad_from-nil, bad_from-digit}
 
 module _ (reports0 : Reports) (hex : Bool) (r0 w0 : Option (List ℕ)) where
-  -- the text and the octets so far, and what was written of them
+  -- the text and the octets so far, and what was written for them
   pub record Reading (reports : Reports) (going : Type 0) (r w : Option (List ℕ)) (reader : HexText) (turns : ℕ) : Type 0 where
     pub text : List ℕ
     pub are : AreOctets text
@@ -24,7 +24,7 @@ module _ (reports0 : Reports) (hex : Bool) (r0 w0 : Option (List ℕ)) where
     pub goes : going
     pub rests : Rests reports
 
-  -- a text was read, so much was written and so much collected, and what is reported behind it is reported of the whole
+  -- a text was read, this was written and this collected, and a report of what follows it gives a report of the whole
   pub record Reached (reports : Reports) (r w : Option (List ℕ)) (text written told : List ℕ) : Type 0 where
     pub read : Consumes r0 r text
     pub wrote : Appends w0 w written
@@ -34,7 +34,7 @@ module _ (reports0 : Reports) (hex : Bool) (r0 w0 : Option (List ℕ)) where
 abbrev io : Option (List ℕ) → Option (List ℕ) → Option (List ℕ) → Option (List ℕ) → Io
 io r0 w0 r w = record { reader_old = r0; reader_new = r; writer_old = w0; writer_new = w }
 
--- the digits that wait spell nothing
+-- the pending digit has no octets
 rest_is_nothing : (h : Bool) (o : Option ℕ) → (h ≡ false → o ≡ None) → stream_of h (option_to_list o ++ []) ≡ []
 rest_is_nothing true None raw = spelled-nil
 rest_is_nothing true (Some c) raw = spelled-digit c
@@ -45,7 +45,7 @@ pub stream_octets : (hex : Bool) (text : List ℕ) → AreOctets text → AreOct
 stream_octets true text are = spelled-octets text
 stream_octets false text are = are
 
--- a front of lines that were collected and are written behind those before them
+-- lines that were collected are written after those before them
 pub goes_further : (reports0 reports reports1 : Reports) (octets octets1 lines lines1 : List ℕ) → GoesOn reports0 octets lines reports → GoesOn reports octets1 lines1 reports1 → GoesOn reports0 (octets ++ octets1) (lines ++ lines1) reports1
 goes_further reports0 reports reports1 octets octets1 lines lines1 on on1 later r g =
     subst (λ (s : List ℕ). reports0 s (behind (lines ++ lines1) r)) (sym (append_assoc octets octets1 later))
@@ -62,7 +62,7 @@ module _ {reports0 : Reports} {hex : Bool} {r0 w0 : Option (List ℕ)} where
     pub fails_read : (q : Report) → reports [] q → Fails (OfOctets reports0) hex (io r0 w0 r w) ToolFault.Read
     fails_read q g = record { text = text; read = s.read; report = behind (written ++ told) q; reported = (stream_octets hex text s.are, s.lifts q g); written = written; wrote = s.wrote; is_fault = more_front told q.lines }
 
-    -- all that was collected was written
+    -- all collected text was written
     pub fails_bad : (n : ℕ) (q : Report) → reports [] q → q.lines ≡ [] → Appends w w1 told → IsBadAt hex text r q.end_of n → Fails (OfOctets reports0) hex (io r0 w0 r w1) (ToolFault.BadHex n)
     fails_bad n q g none more bad = record {
       text = text;
@@ -77,7 +77,7 @@ module _ {reports0 : Reports} {hex : Bool} {r0 w0 : Option (List ℕ)} where
     all_of : (q : Report) → q.lines ≡ [] → written ++ (told ++ q.last) ≡ ((written ++ told) ++ q.lines) ++ q.last
     all_of q none = sym (append_assoc written told q.last) ∙ ap (λ (x : List ℕ). x ++ q.last) (sym (ap (λ (x : List ℕ). (written ++ told) ++ x) none ∙ append-nil (written ++ told)))
 
-    -- a front of what was collected and is written last was written
+    -- a prefix of the collected and the last text was written
     pub fails_write : (q : Report) → reports [] q → q.lines ≡ [] → AppendsFront w w1 (told ++ q.last) → Fails (OfOctets reports0) hex (io r0 w0 r w1) ToolFault.Write
     fails_write q g none a = record {
       text = text;
@@ -89,7 +89,7 @@ module _ {reports0 : Reports} {hex : Bool} {r0 w0 : Option (List ℕ)} where
       is_fault = (a.is_front.0, sym (all_of q none) ∙ ap (λ (x : List ℕ). written ++ x) a.is_front.1 ∙ sym (append_assoc written a.front a.is_front.0));
     }
 
-    -- what was collected wasn't written
+    -- the collected text wasn't written
     pub fails_put : (q : Report) (f : ToolFault) → reports [] q → q.lines ≡ [] → FailsWithin w w1 told f → Fails (OfOctets reports0) hex (io r0 w0 r w1) f
     fails_put q f g none h =
         subst (λ (x : ToolFault). Fails (OfOctets reports0) hex (io r0 w0 r w1) x) (sym h.is_write)
@@ -112,7 +112,7 @@ module _ {reports0 : Reports} {hex : Bool} {r0 w0 : Option (List ℕ)} where
       all_read = all_read a.report a.reported;
     }
 
-    -- the stream went no further, and all of its report was written
+    -- the stream ended, and all of its report was written
     pub fails_behind : (f : ToolFault)
         → ((report : Report) (all : List ℕ) → all ≡ report.lines ++ report.last → report.answer ≡ Err f → IsAllRead hex text r report.end_of → IsFaultOf hex text r report all f)
         → ((q : Report) → reports [] q → IsAllRead hex text r q.end_of) → WritesAll reports told w w1 (Err f) → Fails (OfOctets reports0) hex (io r0 w0 r w1) f
@@ -149,7 +149,7 @@ module _ {reports0 : Reports} {hex : Bool} {r0 w0 : Option (List ℕ)} where
     finished (Err (ToolFault.Clean n why)) all_read a = fails_behind (ToolFault.Clean n why) (λ report all whole answer read. (a.0, whole, answer, read)) all_read a.1
     finished (Err (ToolFault.NoContext why)) all_read a = fails_behind (ToolFault.NoContext why) (λ report all whole answer read. (whole, answer, read)) all_read a
 
-  -- nothing was read yet
+  -- nothing has been read yet
   pub Reading-none : (going : Type 0) (reader : HexText) → going → Rests reports0 → reader.pending ≡ None → reader.seen ≡ 0 → Reading reports0 hex r0 w0 reports0 going r0 w0 reader 0
   Reading-none going reader goes rests none zeros =
       let nothing : pending reader ≡ [] = ap option_to_list none in
@@ -170,7 +170,7 @@ module _ {reports0 : Reports} {hex : Bool} {r0 w0 : Option (List ℕ)} where
       }
 
   module _ {reports : Reports} {going : Type 0} {r w : Option (List ℕ)} {reader : HexText} {turns : ℕ} (s : Reading reports0 hex r0 w0 reports going r w reader turns) where
-    -- ---- a block was read, taken and written
+    -- ---- a block was read, processed and written
     module _ (r1 : Option (List ℕ)) (block : List ℕ) (octets : AreOctets block) (more : Consumes r r1 block) where
       more_are : AreOctets (s.text ++ block)
       more_are = AreOctets-append s.text block s.are octets
@@ -187,7 +187,7 @@ module _ {reports0 : Reports} {hex : Bool} {r0 w0 : Option (List ℕ)} where
       all_octets : stream_of hex (s.text ++ block) ≡ s.octets ++ stream_of hex (pending reader ++ (block ++ []))
       all_octets = ap (stream_of hex) (sym whole_text) ∙ streams []
 
-      -- the block was read, and not taken
+      -- the block was read, and not processed
       pub fails_block : IsTotal reports → Fails (OfOctets reports0) hex (record { reader_old = r0; reader_new = r1; writer_old = w0; writer_new = w }) ToolFault.Memory
       fails_block total =
           let rest : List ℕ = stream_of hex (pending reader ++ (block ++ [])) in
@@ -203,7 +203,7 @@ module _ {reports0 : Reports} {hex : Bool} {r0 w0 : Option (List ℕ)} where
             is_fault = (found.0.lines, refl);
           }
 
-      -- what is reported behind the block, is reported of the whole
+      -- a report of what follows the block gives a report of the whole
       lifts : {reports1 : Reports} (told told1 octets lines later : List ℕ) → told ≡ [] → GoesOn reports octets lines reports1 → told1 ≡ told ++ lines → stream_of hex (s.text ++ block) ≡ (s.octets ++ octets) ++ later → (q : Report) → reports1 later q
           → reports0 (stream_of hex (s.text ++ block)) (behind (s.lines ++ told1) q)
       lifts {reports1} told told1 octets lines later none on is same q g =
@@ -258,7 +258,7 @@ module _ {reports0 : Reports} {hex : Bool} {r0 w0 : Option (List ℕ)} where
             let at : (later : List ℕ) → bad_of hex 0 ((s.text ++ block) ++ later) ≡ Some n = λ later. ap (bad_of hex 0) (append_assoc s.text block later) ∙ s.bad (block ++ later) ∙ m.spells.bad later in
             record { place = ap (bad_of hex 0) (sym whole_text) ∙ at []; is_certain = inl at; not_over = waiting }
 
-    -- ---- no block came
+    -- ---- there was no block
 
     module _ (r1 : Option (List ℕ)) (told : List ℕ) (none : told ≡ []) (more : Consumes r0 r1 s.text) where
       all_spelled : stream_of hex s.text ≡ s.octets ++ []
@@ -297,14 +297,14 @@ module _ {reports0 : Reports} {hex : Bool} {r0 w0 : Option (List ℕ)} where
           nothing_bad true m = bad_from-nil m
           nothing_bad false m = refl
 
--- what is reported by one relation is by another
+-- what one relation reports another does
 pub answers_as : (a b : Reports) (hex : Bool) (io : Io) (answer : Result Tally ToolFault) → ((s : List ℕ) (r : Report) → a s r → b s r) → Answers a hex io answer → Answers b hex io answer
 answers_as a b hex io (Ok tally) map f =
     record { text = f.text; read = f.read; report = f.report; reported = map _ f.report f.reported; answers = f.answers; wrote = f.wrote; all_read = f.all_read }
 answers_as a b hex io (Err fault) map f =
     record { text = f.text; read = f.read; report = f.report; reported = map _ f.report f.reported; written = f.written; wrote = f.wrote; is_fault = f.is_fault }
 
--- ---- what a read brought
+-- ---- the result of a read
 
 pub read_nothing : (r0 r r1 : Option (List ℕ)) (n : ℕ) (buf t : List ℕ) → n ≡ 0 → Consumes r r1 (take n buf) → Consumes r0 r t → Consumes r0 r1 t
 read_nothing r0 r r1 n buf t none more read =

@@ -1,4 +1,4 @@
--- What a speaker's own OPEN tells of its settings.
+-- What a speaker's own OPEN says of its settings.
 use Rattle.bgp_engine.proofs.Prelude.{◌≡◌, ◌&&◌, eqb, Ok, eqb-true, Context, agreement, context_of, peer_as_of, same_id}
 use Rattle.bgp_engine.proofs.Prelude.{Settings, IsAllowed, own_of, agreed_context}
 use Rattle.bgp_open.proofs.Agreements.{accepted, finds_ip4, finds_ip6, has_as4, one_as-own}

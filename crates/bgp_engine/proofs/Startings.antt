@@ -1,4 +1,4 @@
--- Steps of an engine that takes the first message of its stream by a rule of its own.
+-- Steps of an engine that handles the first message of its stream by a separate rule.
 use Rattle.bgp_engine.proofs.Prelude.{◌≡◌, ℕ, ◌+◌, ◌≤◌, Bool, true, false, Bor, List, [], ◌++◌, length, take, drop, Option, option_map, Some, None, Result}
 use Rattle.bgp_engine.proofs.Prelude.{Ok, Err, refl, sym, ap, subst, ◌∙◌, append_assoc, arith, inl, inr, unwrap_or, take-append-drop, drop-append_seam}
 use Rattle.bgp_engine.proofs.Prelude.{is_some, OnErr, append-nil, length-append, take_all, AreOctets, has_octet, AreOctets-append}
@@ -20,8 +20,10 @@ use Rattle.bgp_engine.specs.steps.Starting as steps
 use Rattle.bgp_engine.proofs.FirstOpens.{waits_part, frame_first, frame_whole, fault_whole, fault_first}
 use Rattle.bgp_engine.proofs.Reading.{goes_further}
 use Rattle.bgp_engine.proofs.Walks.{counts_on, heard, heard_report, reports_report}
+use Rattle.bgp_frame.specs.Kind.{plain as plain_types}
+use Rattle.bgp_frame.specs.steps.AreTypes.{plain-are}
 
--- ---- octets are taken behind others
+-- ---- octets are consumed after others
 
 pub takes_behind : (a b d : Reports) (going : Type 0) (t0 t1 t2 x y lines : List ℕ) (over : Bool) → t1 ≡ t0 ++ lines → GoesOn a x lines b → Takes b d going t1 t2 y over → Takes a d going t0 t2 (x ++ y) over
 takes_behind a b d going t0 t1 t2 x y lines over told on p = record {
@@ -37,12 +39,12 @@ on_err (Err e) P p = p
 
 -- ---- octets of the first message
 
--- where that waits, all were fed
+-- where that is incomplete, all were fed
 pub all_fed : (held octets : List ℕ) (n : ℕ) → frame.Takes held octets n → Waits (held ++ take n octets) → take n octets ≡ octets
 all_fed held octets n t waits =
     elim t.all_or_stops [
       | inl all ↦ take_all n octets (omega (arith, all))
-      | inr stops ↦ let w = Stops-wanted (held ++ take n octets) stops in absurd (omega (arith, w.1))
+      | inr stops ↦ let w = Stops-wanted plain_types plain-are (held ++ take n octets) stops in absurd (omega (arith, w.1))
     ]
 
 fed_whole : (held octets : List ℕ) (n : ℕ) (later : List ℕ) → (held ++ take n octets) ++ (drop n octets ++ later) ≡ held ++ (octets ++ later)
@@ -80,7 +82,7 @@ module _ {Outcome : Type 0} (starts : Starts Outcome) where
   pub first_total : (w : Walking Outcome) → IsCounting w → IsTotal (reports_in (starting starts Stage.First w))
   first_total w c later octets = let found = total (w.held ++ later) (AreOctets-append w.held later c.octets octets) in (found.0, λ are. found.1)
 
-  -- ---- the first message is there
+  -- ---- the first message is whole
 
   module _ (held : List ℕ) (m : Message) (f : IsFrame m held) (later : List ℕ) where
     pub plain : (rules : Rules Outcome) (r : Report) → starts (Some m) ≡ Ok (record { rules = rules; first = None }) → IsReport rules 0 no_tally (held ++ later) r → ReportedFrom starts (held ++ later) r
@@ -106,7 +108,7 @@ module _ {Outcome : Type 0} (starts : Starts Outcome) where
     pub without : (rules : Rules Outcome) (r : Report) → starts None ≡ Ok (record { rules = rules; first = None }) → IsReport rules 0 no_tally s r → ReportedFrom starts s r
     without rules r e q = rw (none, e) q
 
-  -- ---- how a stream goes on behind what is held
+  -- ---- how a stream continues after what is held
 
   module _ (rules rules1 : Rules Outcome) (held : List ℕ) (place : ℕ) (tally : Tally) (ended : Option End) (c : IsCounting (walking rules held place tally ended)) (fresh : IsFresh (walking rules held place tally ended)) where
     abbrev pub held_walk : Walking Outcome
@@ -126,7 +128,7 @@ module _ {Outcome : Type 0} (starts : Starts Outcome) where
         subst (λ (w : Walking Outcome). IsReport rules1 w.place w.tally (held ++ later) r) fresh
         (reports_report held_walk later r unended (record { octets = c.octets; within = within }) octets q)
 
-    -- a stream that ends with a first message that waits
+    -- a stream that ends with an incomplete first message
     pub closes_first : (t0 t1 : List ℕ) (answer : Result Tally ToolFault) → Waits held → starts None ≡ Ok (record { rules = rules1; first = None }) → Closes (reports_of held_walk) t0 t1 answer
         → Closes (reports_in (starting starts Stage.First held_walk)) t0 t1 answer
     closes_first t0 t1 answer waits e closes =
@@ -142,14 +144,14 @@ module _ {Outcome : Type 0} (starts : Starts Outcome) where
       settles_plain told1 b = record {
         lines = [];
         told = b.1 ∙ sym (append-nil told);
-        settles = (unended, counts_held, λ later r octets q. plain held m f later rules1 r b.0 (from_front (let long = Stops-wanted held (inl (m, f)) in omega (arith, long.1)) later r octets q));
+        settles = (unended, counts_held, λ later r octets q. plain held m f later rules1 r b.0 (from_front (let long = Stops-wanted plain_types plain-are held (inl (m, f)) in omega (arith, long.1)) later r octets q));
       }
 
       from_behind : (later : List ℕ) (r : Report) → AreOctets later → reports_of (handed_walk (length held)) later r → IsReport rules1 (length held) (counted no_tally (length held) Class.Took) later r
       from_behind later r octets q =
           subst (λ (n : ℕ). IsReport rules1 n (counted no_tally (length held) Class.Took) later r) (let same : 0 + length held ≡ length held = omega arith in same)
           (subst (λ (w : Walking Outcome). IsReport rules1 (w.place + length held) (counted w.tally (length held) Class.Took) later r) fresh
-          (reports_report (handed_walk (length held)) later r refl IsHeld_nil octets q))
+          (reports_report (handed_walk (length held)) later r refl (IsHeld_nil plain_types plain-are) octets q))
 
       pub settles_handed : (told1 : List ℕ) (len : ℕ) → len ≡ length held → ((text : List ℕ) × (starts (Some m) ≡ Ok (record { rules = rules1; first = Some text })) × (told1 ≡ told ++ text))
           → Settles Stage.Agreed starts held told told1 (handed_walk len)
@@ -160,7 +162,7 @@ module _ {Outcome : Type 0} (starts : Starts Outcome) where
             told = b.2;
             settles = (
               refl,
-              counts_on (walking rules held place tally ended) c rules1 (length held) Class.Took (omega (arith, length-IsFrame m held f)) (omega arith),
+              counts_on (walking rules held place tally ended) c rules1 (length held) Class.Took (omega (arith, length-IsFrame plain_types plain-are m held f)) (omega arith),
               λ later r octets q. handed held m f later rules1 b.0 r b.1 (from_behind later r octets q),
             );
           })
@@ -168,17 +170,17 @@ module _ {Outcome : Type 0} (starts : Starts Outcome) where
     module _ (told told1 : List ℕ) (h : HeadFault) (size : length held ≡ 19) (faulty : head_of held ≡ Err h) (same : told1 ≡ told) where
       none_read : (later : List ℕ) → first_message (held ++ later) ≡ None
       none_read later =
-          fault_first (held ++ later) h (omega (arith, size, length-append held later)) (head_of-append held later (omega (arith, size)) ∙ faulty)
+          fault_first (held ++ later) h (omega (arith, size, length-append held later)) (head_of-append plain_types plain-are held later (omega (arith, size)) ∙ faulty)
 
       no_part : (later : List ℕ) → is_part (held ++ later) ≡ false
       no_part later =
-          fault_whole (held ++ later) h (omega (arith, size, length-append held later)) (head_of-append held later (omega (arith, size)) ∙ faulty)
+          fault_whole (held ++ later) h (omega (arith, size, length-append held later)) (head_of-append plain_types plain-are held later (omega (arith, size)) ∙ faulty)
 
       pub settles_fault : starts None ≡ Ok (record { rules = rules1; first = None }) → Settles Stage.Agreed starts held told told1 held_walk
       settles_fault b = record {
         lines = [];
         told = same ∙ sym (append-nil told);
-        settles = (unended, counts_held, λ later r octets q. without (held ++ later) (none_read later) rules1 r b (from_front (let long = Stops-wanted held (inr (size, (h, faulty))) in omega (arith, long.1)) later r octets q));
+        settles = (unended, counts_held, λ later r octets q. without (held ++ later) (none_read later) rules1 r b (from_front (let long = Stops-wanted plain_types plain-are held (inr (size, (h, faulty))) in omega (arith, long.1)) later r octets q));
       }
 
       pub settles_fault_unagreed : (why : NoContext) → starts None ≡ Err why → Settles (Stage.Unagreed why) starts held told told1 held_walk
@@ -194,7 +196,7 @@ module _ {Outcome : Type 0} (starts : Starts Outcome) where
   rests_by held waits (Err why) e = (unagreed why (End.Wait (length held)), rw (part_first held waits, e, waits_part held waits) refl, refl, tt)
   rests_by held waits (Ok x) e = (
     report_of x.rules 0 no_tally held [] (End.Wait (length held)),
-    rw (part_first held waits, e) (record { outcomes = []; end_of = End.Wait (length held); gives = gives_wait Outcome x.rules.judge held waits; told = refl }),
+    rw (part_first held waits, e) (record { outcomes = []; end_of = End.Wait (length held); gives = gives_wait plain_types plain-are Outcome x.rules.judge held waits; told = refl }),
     refl,
     tt,
   )
@@ -257,7 +259,7 @@ module _ {Outcome : Type 0} (starts : Starts Outcome) where
 pub closes_unagreed : {Outcome : Type 0} (starts : Starts Outcome) (w : Walking Outcome) (told : List ℕ) (why : NoContext) → Closes (reports_in (starting starts (Stage.Unagreed why) w)) told told (Err (ToolFault.NoContext why))
 closes_unagreed starts w told why = record { report = unagreed why End.Reset; reported = refl; none = refl; closes = (sym (append-nil told), refl) }
 
--- an engine's answer has no words
+-- an engine's answer has no reason
 pub wordless : (reports : Reports) (hex : Bool) (io : Io) (answer : Result Tally ToolFault) → Answers reports hex io answer → without_words answer ≡ answer
 wordless reports hex io (Ok tally) a = refl
 wordless reports hex io (Err ToolFault.Memory) a = refl
@@ -286,7 +288,7 @@ module _ {P Outcome : Type 0} (fits : Context → Bool) (rules : P → Rules Out
   unknown None page is = absurd cc
   unknown (Some theirs) page is = refl
 
-  -- pages with the same rules and plan read a stream alike
+  -- pages with the same rules and plan read a stream in the same way
   starts_at : (theirs : Option (List ℕ)) (p q : P) → rules p ≡ rules q → plan p ≡ plan q → (o : Option Message) → from theirs p o ≡ from theirs q o
   starts_at None p q e f None = ap (λ (r : Rules Outcome). Ok (record { rules = r; first = None })) e
   starts_at None p q e f (Some m) = ap (λ (x : Option Context → Plan Outcome). Ok (start_of m (x None))) f
@@ -297,7 +299,7 @@ module _ {P Outcome : Type 0} (fits : Context → Bool) (rules : P → Rules Out
   pub starts_same : (theirs : Option (List ℕ)) (p q : P) → rules p ≡ rules q → plan p ≡ plan q → from theirs p ≡ from theirs q
   starts_same theirs p q e f = λ i o. starts_at theirs p q e f o i
 
-  -- no first message has a rule of its own: the stream is reported in the context that both agree on
+  -- no first message has a separate rule: the stream is reported in the context that both agree on
   pub opened : (theirs : List ℕ) (page : P) → ((ctx : Context) (m : Message) → (plan page (Some ctx)).first m ≡ None) → (s : List ℕ) (r : Report)
       → ReportedFrom (from (Some theirs) page) s r → ReportedBy fits theirs (λ ctx. IsReport (plan page (Some ctx)).rules 0 no_tally) s r
   opened theirs page plain s r q = by_first (first_message s) q
@@ -311,7 +313,7 @@ module _ {P Outcome : Type 0} (fits : Context → Bool) (rules : P → Rules Out
       by_first None given = given
       by_first (Some m) given = by_fit m (fit_of fits (agreed (open_in m.kind m.body) (first_open theirs))) given
 
--- two ways to read a stream that are one for each first message
+-- two ways to read a stream that agree on each first message
 pub from_same : {Outcome : Type 0} (a b : Starts Outcome) → ((o : Option Message) → a o ≡ b o) → (s : List ℕ) (r : Report) → ReportedFrom a s r → ReportedFrom b s r
 from_same {Outcome = Outcome} a b same s r q = by_first (first_message s) q
   where
@@ -319,7 +321,7 @@ from_same {Outcome = Outcome} a b same s r q = by_first (first_message s) q
     by_first None given = subst (λ (x : Result (Start Outcome) NoContext). ReportedWithout x s r) (same None) given
     by_first (Some m) given = subst (λ (x : Result (Start Outcome) NoContext). ReportedWith x (length (octets_of m)) s r) (same (Some m)) given
 
--- what `clean` has for a page is what its own streams are read by
+-- the page of `clean` reads its streams by the rules of `clean`
 pub clean_same : (theirs : Option (List ℕ)) (page : CleanPage) (o : Option Message)
     → starts_of (λ _. true) page_rules (λ p ctx. clean_plan (unwrap_or ctx p.ctx) (has_octet p.drops) p.limits) theirs page o ≡ starts_for theirs page o
 clean_same None page None = refl

@@ -1,4 +1,4 @@
--- A walk over the messages of a stream is a hearer of octets, and what it comes to octet by octet is the report of the stream.
+-- A walk over the messages of a stream is a receiver of octets, and its result octet by octet is the report of the stream.
 use Rattle.bgp_engine.proofs.Prelude.{◌≡◌, ℕ, zero, suc, ◌+◌, ◌<◌, ◌≤◌, ◌^◌, Bool, true, false, List, [], ◌∷◌, ◌++◌, length, take, drop, Option, Some, None}
 use Rattle.bgp_engine.proofs.Prelude.{option_map, Result, Ok, Err, refl, sym, ap, subst, ◌∙◌, append_assoc, arith, inl, inr, take-append-drop, cases_lt}
 use Rattle.bgp_engine.proofs.Prelude.{take-append_seam, drop-append_seam, if◌then◌else◌, is_none, is_some, not, append-nil, length-append, length-drop}
@@ -14,13 +14,15 @@ use Rattle.std.proofs.Math.Dec.{eqb-suc-zero}
 use Rattle.bgp_frame.specs.Hearing as hearing
 use Rattle.bgp_frame.proofs.Hearings as hearings
 use Rattle.bgp_frame.proofs.Hearings.{IsHearer, content_is, taken_up}
+use Rattle.bgp_frame.specs.Kind.{plain}
+use Rattle.bgp_frame.specs.steps.AreTypes.{plain-are}
 
 pub is_hearer : {Outcome : Type 0} → IsHearer (walker {Outcome = Outcome})
-is_hearer = record { held_so = λ w held. refl; held_same = λ w. refl; held_last = λ w a b. refl; listens_so = λ w held. refl; emptied = λ w said. refl }
+is_hearer = record { types = plain-are; held_so = λ w held. refl; held_same = λ w. refl; held_last = λ w a b. refl; listens_so = λ w held. refl; emptied = λ w said. refl }
 
--- ---- what a walk comes to is a report
+-- ---- the result of a walk is a report
 
--- the octets of a message, which isn't empty, are as many
+-- the octets of a message, which isn't empty, are the first n of the stream
 octets_at-some : (n : ℕ) (s : List ℕ) → 0 < n → octets_at n s ≡ take n s
 octets_at-some zero s some = absurd (omega (arith, some))
 octets_at-some (suc n) s some = rw (eqb-suc-zero n) refl
@@ -35,13 +37,13 @@ module _ {Outcome : Type 0} (rules : Rules Outcome) where
   abbrev HasReport : ℕ → Tally → List ℕ → Type 0
   HasReport place tally s = IsReport rules place tally s (heard place tally s)
 
-  -- octets that can be held can be held before the others come
+  -- octets that can be held can be held before the others arrive
   held_first : (place : ℕ) (tally : Tally) (held later : List ℕ) → IsHeld held
       → by_octets walker (front place tally) (held ++ later) ≡ left_to_do walker (walking rules held place tally None) later
   held_first place tally held later can =
       hearings.in_parts walker is_hearer (front place tally) held later
       ∙ ap (λ (d : Done (Walking Outcome) ℕ). hearing.behind d.actions (by_octets walker d.session later))
-      (hearings.front_by_octets walker is_hearer (front place tally) refl held nothing_waits can)
+      (hearings.front_by_octets walker is_hearer (front place tally) refl held (nothing_waits plain plain-are) can)
 
   reported_behind : (lines : List ℕ) (d : Done (Walking Outcome) ℕ) → reported (hearing.behind lines d) ≡ behind lines (reported d)
   reported_behind lines d = rw (append_assoc lines d.actions []) refl
@@ -53,18 +55,18 @@ module _ {Outcome : Type 0} (rules : Rules Outcome) where
     abbrev next : Option End → Walking Outcome
     next ended = walking rules [] (place + passed rules o) (counted tally o.0 (rules.class o.1)) ended
 
-    -- the report of what stands behind it
+    -- the report of what follows it
     abbrev report_behind : List ℕ → List (ℕ × Outcome) → End → Report
     report_behind s os e = report_of rules (place + passed rules o) (counted tally o.0 (rules.class o.1)) s os e
 
     its_octets : (w : Result Message HeadFault) → IsContent w held → octets_at (outcome rules w).0 (held ++ later) ≡ held
     its_octets (Ok m) f =
         let size : length held ≡ length (octets_of m) = ap length f.octets in
-        octets_at-some (length (octets_of m)) (held ++ later) (omega (arith, size, length-IsFrame m held f))
+        octets_at-some (length (octets_of m)) (held ++ later) (omega (arith, size, length-IsFrame plain plain-are m held f))
         ∙ ap (λ (n : ℕ). take n (held ++ later)) (sym size) ∙ take-append_seam held later
     its_octets (Err f) faulty = ap (λ (n : ℕ). take n (held ++ later)) (sym faulty.0) ∙ take-append_seam held later
 
-    -- it is written and counted, and then what stands behind it
+    -- it is written and counted, and then what follows it
     report_content : (os : List (ℕ × Outcome)) (e : End) → Gives rules.judge (held ++ later) (o ∷ os) e
         → reported (by_octets walker (next (ended_by rules what)) later) ≡ report_behind (drop (passed rules o) (held ++ later)) os e → HasReport place tally (held ++ later)
     report_content os e gives rest =
@@ -75,27 +77,27 @@ module _ {Outcome : Type 0} (rules : Rules Outcome) where
           end_of = e;
           gives = gives;
           told = ap reported (held_first place tally held later can
-              ∙ ap (λ c. let d : Done (Walking Outcome) ℕ = done_by walker x (option_map (walker.comes x) c) in hearing.behind d.actions (by_octets walker d.session later)) (content_is what held is))
+              ∙ ap (λ c. let d : Done (Walking Outcome) ℕ = done_by walker x (option_map (walker.comes x) c) in hearing.behind d.actions (by_octets walker d.session later)) (content_is plain plain-are what held is))
               ∙ reported_behind (rules.line place o.0 held o.1) (by_octets walker (next (ended_by rules what)) later)
               ∙ ap (behind (rules.line place o.0 held o.1)) rest
               ∙ rw (its_octets what is, drop-drop (total rules os) (passed rules o) (held ++ later), place_is) refl;
         }
 
-    -- behind the end of a stream nothing is heard
+    -- after the end of a stream nothing is received
     none_heard : (e : End) → by_octets walker (next (Some e)) later ≡ record { actions = []; session = next (Some e) }
-    none_heard e = hearings.drops_all walker is_hearer (next (Some e)) refl nothing_waits later
+    none_heard e = hearings.drops_all walker is_hearer (next (Some e)) refl (nothing_waits plain plain-are) later
 
   module _ (n : ℕ) (shorter : (s : List ℕ) (place : ℕ) (tally : Tally) → length s < n → AreOctets s → HasReport place tally s) (place : ℕ) (tally : Tally) (held later : List ℕ) (can : IsHeld held) where
     report_message : (m : Message) (f : IsFrame m held) → length later < n → AreOctets later → (resets : Bool) → rules.judge.resets (rules.judge.of_message m) ≡ resets → HasReport place tally (held ++ later)
     report_message m f lt octets true is =
-        report_content place tally held later can (Ok m) f [] End.Reset (gives_reset Outcome rules.judge m held later f is)
+        report_content place tally held later can (Ok m) f [] End.Reset (gives_reset plain plain-are Outcome rules.judge m held later f is)
         (ap (λ (b : Bool). reported (by_octets walker (next place tally held later can (Ok m) f (reset_if b)) later)) is ∙ ap reported (none_heard place tally held later can (Ok m) f End.Reset))
     report_message m f lt octets false on =
         let x = next place tally held later can (Ok m) f None in
         let q = shorter later x.place x.tally lt octets in
         let rest : drop (passed rules (outcome rules (Ok m))) (held ++ later) ≡ later =
         ap (λ (b : Bool). drop (if b then 0 else length (octets_of m)) (held ++ later)) on ∙ ap (λ (i : ℕ). drop i (held ++ later)) (sym (ap length f.octets)) ∙ drop-append_seam held later in
-        report_content place tally held later can (Ok m) f q.outcomes q.end_of (gives_more Outcome rules.judge m held later q.outcomes q.end_of f on q.gives)
+        report_content place tally held later can (Ok m) f q.outcomes q.end_of (gives_more plain plain-are Outcome rules.judge m held later q.outcomes q.end_of f on q.gives)
         (ap (λ (b : Bool). reported (by_octets walker (next place tally held later can (Ok m) f (reset_if b)) later)) on ∙ q.told
         ∙ ap (λ (s : List ℕ). report_of rules x.place x.tally s q.outcomes q.end_of) (sym rest))
 
@@ -105,7 +107,7 @@ module _ {Outcome : Type 0} (rules : Rules Outcome) where
         let f : HeadFault = faulty.1.0 in
         let long : 19 ≤ length (held ++ later) = omega (arith, faulty.0, length-append held later) in
         report_content place tally held later can (Err f) (faulty.0, faulty.1.1) [] End.Head
-        (gives_fault Outcome rules.judge (held ++ later) f long (head_of-append held later (omega (arith, faulty.0)) ∙ faulty.1.1))
+        (gives_fault plain plain-are Outcome rules.judge (held ++ later) f long (head_of-append plain plain-are held later (omega (arith, faulty.0)) ∙ faulty.1.1))
         (ap reported (none_heard place tally held later can (Err f) (faulty.0, faulty.1.1) End.Head))
 
   reports_within : (n : ℕ) (s : List ℕ) (place : ℕ) (tally : Tally) → length s < n → AreOctets s → HasReport place tally s
@@ -114,17 +116,17 @@ module _ {Outcome : Type 0} (rules : Rules Outcome) where
       elim (cases_lt (length s) (wanted s)) [
         | inl waits ↦
             let can : IsHeld s = record { octets = octets; within = omega (arith, waits) } in
-            let none = hearings.front_by_octets walker is_hearer (front place tally) refl s nothing_waits can ∙ hearings.rests walker is_hearer (walking rules s place tally None) waits in
-            record { outcomes = []; end_of = End.Wait (length s); gives = gives_wait Outcome rules.judge s waits; told = ap reported none }
+            let none = hearings.front_by_octets walker is_hearer (front place tally) refl s (nothing_waits plain plain-are) can ∙ hearings.rests walker is_hearer (walking rules s place tally None) waits in
+            record { outcomes = []; end_of = End.Wait (length s); gives = gives_wait plain plain-are Outcome rules.judge s waits; told = ap reported none }
         | inr long ↦
             let held : List ℕ = take (wanted s) s in
-            let bounds = wanted-bounds s in
+            let bounds = wanted-bounds plain plain-are s in
             let size : length held ≡ wanted s = omega (arith, length-take (wanted s) s) in
-            let wants : wanted held ≡ wanted s = sym (wanted-append held (drop (wanted s) s) (omega (arith, bounds.0))) ∙ ap wanted (take-append-drop (wanted s) s) in
+            let wants : wanted held ≡ wanted s = sym (wanted-append plain plain-are held (drop (wanted s) s) (omega (arith, bounds.0))) ∙ ap wanted (take-append-drop (wanted s) s) in
             let octets_held : AreOctets held = AreOctets-take (wanted s) s octets in
             subst (HasReport place tally) (take-append-drop (wanted s) s)
             (report_front n (reports_within n) place tally held (drop (wanted s) s) (record { octets = octets_held; within = omega arith })
-            (wanted-Stops held octets_held (omega (arith, bounds.0)) (omega arith)) (omega (arith, bounds.0, length-drop (wanted s) s)) (AreOctets-drop (wanted s) s octets))
+            (wanted-Stops plain plain-are held octets_held (omega (arith, bounds.0)) (omega arith)) (omega (arith, bounds.0, length-drop (wanted s) s)) (AreOctets-drop (wanted s) s octets))
       ]
 
   -- each stream of octets has its report
@@ -137,7 +139,7 @@ messages_in-bound : (n : ℕ) → messages_in n ≤ 1
 messages_in-bound zero = omega arith
 messages_in-bound (suc n) = rw (eqb-suc-zero n) (omega arith)
 
--- behind the end of a stream its octets don't count
+-- after the end of a stream its octets don't count
 passed-bound : (resets : Bool) (n : ℕ) → (if resets then 0 else n) ≤ n
 passed-bound true n = omega arith
 passed-bound false n = omega arith
@@ -168,7 +170,7 @@ module _ {Outcome : Type 0} where
   abbrev done : List ℕ → Walking Outcome → Done (Walking Outcome) ℕ
   done actions w = record { actions = actions; session = w }
 
-  -- what a walk reports of what it holds and of octets behind that is their report
+  -- what a walk reports of what it holds and of the octets after that is their report
   pub reports_report : (w : Walking Outcome) (later : List ℕ) (r : Report) → w.ended ≡ None → IsHeld w.held → AreOctets later → reports_of w later r → IsReport w.rules w.place w.tally (w.held ++ later) r
   reports_report w later r e can octets q =
       subst (IsReport w.rules w.place w.tally (w.held ++ later))
@@ -207,7 +209,7 @@ module _ {Outcome : Type 0} where
           writes.told,
         )
 
-  -- a walk that stands behind another holds no more octets, and is ready
+  -- a walk after another: its held octets end no later in the stream, and it is ready
   abbrev Stands : Walking Outcome → Walking Outcome → Type 0
   Stands old new = (new.place + length new.held ≤ old.place + length old.held) × IsReady new
 
@@ -221,27 +223,27 @@ module _ {Outcome : Type 0} where
 
     stands_by : (len : ℕ) (k : Class) → 1 < len → len ≤ length w.held → (resets : Bool)
         → Stands w (walking w.rules [] (w.place + (if resets then 0 else len)) (counted w.tally len k) (reset_if resets))
-    stands_by len k some within true = (omega arith, record { waits = nothing_waits; counting = λ none. absurd cc; over = λ ended. tt })
-    stands_by len k some within false = (omega (arith, within), record { waits = nothing_waits; counting = λ none. counts_on w.rules len k some within; over = λ ended. absurd cc })
+    stands_by len k some within true = (omega arith, record { waits = nothing_waits plain plain-are; counting = λ none. absurd cc; over = λ ended. tt })
+    stands_by len k some within false = (omega (arith, within), record { waits = nothing_waits plain plain-are; counting = λ none. counts_on w.rules len k some within; over = λ ended. absurd cc })
 
     stands_judged : (what : Result Message HeadFault) → IsContent what w.held → Stands w (comes w what).1
     stands_judged (Ok m) f =
         let size = ap length f.octets in
-        stands_by (length (octets_of m)) _ (omega (arith, size, length-IsFrame m w.held f)) (omega (arith, size)) (w.rules.judge.resets (w.rules.judge.of_message m))
+        stands_by (length (octets_of m)) _ (omega (arith, size, length-IsFrame plain plain-are m w.held f)) (omega (arith, size)) (w.rules.judge.resets (w.rules.judge.of_message m))
     stands_judged (Err f) faulty =
-        (omega (arith, passed-bound (w.rules.judge.resets (w.rules.judge.of_fault f)) 0), record { waits = nothing_waits; counting = λ none. absurd cc; over = λ ended. tt })
+        (omega (arith, passed-bound (w.rules.judge.resets (w.rules.judge.of_fault f)) 0), record { waits = nothing_waits plain plain-are; counting = λ none. absurd cc; over = λ ended. tt })
 
     judges_stand : (line : List ℕ) (new : Walking Outcome) → Judges walker w line new → Stands w new
     judges_stand line new j = subst (Stands w) (sym j.leaves) (stands_judged j.what j.is_held)
 
-  -- ---- what is heard is what is done octet by octet
+  -- ---- what is received does what its octets do one by one
 
   pub hears_pulled : (old new : Walking Outcome) (octets t0 t1 : List ℕ) (n : ℕ) → IsJudged old new t0 t1 octets (Some n) → Hears old new t0 t1 octets n
   hears_pulled old new octets t0 t1 n j =
       let h = hearings.pulls_as_fed walker is_hearer old octets n (Some j.0) new j.1 in
       record { found = Some j.0; call = (h.fed, h.next); told = j.2 }
 
-  -- nothing was there to judge, so octets were fed, and what is held then is judged
+  -- there was nothing to judge, so octets were fed, and what is held then is judged
   module _ (old mid new : Walking Outcome) (octets held t0 t1 t2 : List ℕ) (n : ℕ) (unended : old.ended ≡ None) (first : IsJudged old mid t0 t1 octets None)
       (counts : hearing.CountsFed true mid.held octets n) (is : held ≡ mid.held ++ take n octets) where
     is_fed : hearing.IsFed walker old octets n (behind_feed walker old octets n)
@@ -265,7 +267,7 @@ module _ {Outcome : Type 0} where
     up = ap is_none unended
 
     counts : hearing.CountsFed true old.held octets n
-    counts = taken_up (is_none old.ended) old.held octets n up h.call.0.0
+    counts = taken_up plain plain-are (is_none old.ended) old.held octets n up h.call.0.0
 
     pub hears_some : 0 < length octets → 0 < n
     hears_some some = counts.1 ready.waits some
@@ -279,7 +281,7 @@ module _ {Outcome : Type 0} where
           hearings.passes walker is_hearer old octets n h.found new
           (record {
             can_hold = record { octets = c.octets; within = omega (arith, ready.waits) };
-            holds_none = λ deaf. absurd (hearings.not_both (is_none old.ended) up deaf);
+            holds_none = λ deaf. absurd (hearings.not_both plain plain-are (is_none old.ended) up deaf);
           })
           are ((hearings.feed_is_way walker is_hearer).heard old octets n h.found new h.call)
 
@@ -308,7 +310,7 @@ module _ {Outcome : Type 0} where
         ready = q.ready;
       }
 
-  -- what is held is judged, and whatever follows is left to do
+  -- what is held is judged, and whatever follows remains to be done
   pub moves_judged : (old new : Walking Outcome) (t0 t1 rest : List ℕ) (found : Option ℕ) → old.ended ≡ None → IsCounting old → IsJudged old new t0 t1 [] found → Moves old new t0 t1 rest rest
   moves_judged old new t0 t1 rest None unended c j =
       subst (λ (w : Walking Outcome). Moves old w t0 t1 rest rest) (sym j.1)
@@ -329,14 +331,14 @@ module _ {Outcome : Type 0} where
       ap (hearing.behind first.actions) (hearings.in_parts walker is_hearer first.session a b)
       ∙ ap (λ (lines : List ℕ). done lines back.session) (sym (append_assoc first.actions front.actions back.actions))
 
-  -- nothing is left to do where what is held waits and no octets come, or the stream has ended
+  -- nothing is left to do where what is held is incomplete and no octets arrive, or the stream has ended
   pub waits_still : (w : Walking Outcome) → Waits w.held → left_to_do walker w [] ≡ done [] w
   waits_still w waits = hearings.waiting walker is_hearer w [] waits
 
   over_still : (w : Walking Outcome) → is_none w.ended ≡ false → Waits w.held → (later : List ℕ) → left_to_do walker w later ≡ done [] w
   over_still w deaf waits later = hearings.waiting walker is_hearer w later waits ∙ hearings.drops_all walker is_hearer w deaf waits later
 
-  -- where the octets were heard up to a rest that does nothing, others can follow
+  -- where the octets were received up to a rest that does nothing, others can follow
   pub goes_on : (old new : Walking Outcome) (t0 t1 octets rest : List ℕ) (p : Moves old new t0 t1 octets rest) → left_to_do walker new rest ≡ done [] new → GoesOn (reports_of old) octets p.lines (reports_of new)
   goes_on old new t0 t1 octets rest p still later r q =
       ap (behind p.lines) (q ∙ ap reported (hearings.waiting walker is_hearer new later p.ready.waits))
@@ -391,15 +393,15 @@ module _ {Outcome : Type 0} where
         closes = subst (λ (d : End). ClosesBy (r d) t0 t1 answer) (sym ends) by;
       }
 
-  -- ---- the front of a stream
+  -- ---- the beginning of a stream
 
   pub front_ready : (rules : Rules Outcome) → IsReady (front rules 0 no_tally)
-  front_ready rules = counting_ready _ (record { octets = AreOctets-nil; place = omega arith; counts = omega arith }) refl nothing_waits
+  front_ready rules = counting_ready _ (record { octets = AreOctets-nil; place = omega arith; counts = omega arith }) refl (nothing_waits plain plain-are)
 
   pub front_report : (rules : Rules Outcome) (s : List ℕ) (r : Report) → AreOctets s × reports_of (front rules 0 no_tally) s r → IsReport rules 0 no_tally s r
   front_report rules s r q = reports_report (front rules 0 no_tally) s r refl (record { octets = AreOctets-nil; within = omega arith }) q.0 q.1
 
--- nothing is written of octets that wait where the stream is over
+-- nothing is written of an incomplete message where the stream is over
 pub none_wait : {Outcome : Type 0} (rules : Rules Outcome) (held : List ℕ) (e : End) → IsOver e → rest_of rules held e ≡ []
 none_wait rules held End.Reset over = refl
 none_wait rules held End.Head over = refl

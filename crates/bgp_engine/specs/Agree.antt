@@ -4,8 +4,8 @@ use Rattle.bgp_engine.specs.Below.{Option, None, Some, Result, Ok, Err, Context,
 use Rattle.bgp_engine.specs.declared.fault.NoContext.{NoContext}
 use Rattle.bgp_engine.specs.declared.fault.NoContext.TheVariants.{NoOpen, Paths}
 
--- The context in which what the speaker of one OPEN sends that of the other is read. It takes two OPENs to agree, and routes with path identifiers aren't
--- read here.
+-- The context for the messages from the speaker of one OPEN to that of the other. It requires both OPENs, and routes with path identifiers aren't
+-- supported here.
 abbrev pub agreed : Option Open → Option Open → Result Context NoContext
 agreed (Some ours) (Some theirs) = if agree_on_paths ours theirs then Err Paths else Ok (agreed_context ours theirs)
 agreed (Some ours) None = Err NoOpen

@@ -7,7 +7,7 @@ pub use Rattle.std.specs.String.{string_bytes}
 pub use Rattle.hex.specs.Hex.{encode_lower, hex_digit_value, is_hex_digit}
 pub use Rattle.bgp_wire.specs.Prelude.{AreOctets, has_octet}
 pub use Rattle.bgp_frame.specs.Prelude.{Done, Gives, Hearer, IsLength, IsToFeed, Message, Pulls, PullsNext, StreamRules, Waits, as_it_is, by_feed, given, head_notification, left_to_do, message_in, octets_of, outcome_of}
-unfoldable pub use Rattle.bgp_frame.specs.Prelude.{head_of, wanted}
+pub use Rattle.bgp_frame.specs.Prelude.{head_of, wanted}
 pub use Rattle.bgp_frame.specs.declared.end.End.{End}
 pub use Rattle.bgp_frame.specs.declared.fault.HeadFault.{HeadFault}
 pub use Rattle.bgp_frame.specs.declared.kind.Kind.{Kind}

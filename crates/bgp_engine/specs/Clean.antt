@@ -1,4 +1,4 @@
--- What `clean` writes: the messages of a stream as they are handed on, up to the first of which nothing is (RFC 7606).
+-- What `clean` writes: the messages of a stream as they are passed on, up to the first of which nothing is (RFC 7606).
 use Rattle.std.specs.Prelude.{ℕ, Bool, true, false, ◌==◌, List, [], Option, None, Some, option_map, is_err, Result, Ok, Err, if◌then◌else◌}
 use Rattle.bgp_engine.specs.Below.{result_ok}
 use Rattle.bgp_engine.specs.Below.{End, HeadFault, Kind, head_notification, Context, CleanFault}
@@ -17,7 +17,7 @@ use Rattle.bgp_engine.specs.First.{start_by, Start, Starts, ReportedFrom}
 use Rattle.bgp_engine.specs.Rules.{Rules}
 use Rattle.bgp_engine.specs.Run.{Reports}
 
--- the written form of what is handed on, where something is
+-- the written form of what is passed on, where something is
 abbrev pub clean_line : Context → Result (List Message) CleanFault → List ℕ
 clean_line ctx (Ok ns) = octets_handed ctx ns
 clean_line ctx (Err f) = []
@@ -26,7 +26,7 @@ abbrev pub clean_class : Result (List Message) CleanFault → Class
 clean_class (Ok ns) = Class.Took
 clean_class (Err f) = Class.Reset
 
--- the offset where it ends before the stream does
+-- the offset where the cleaned stream ends before its source does
 abbrev pub clean_answer : End → Tally → ℕ → Result Tally ToolFault
 clean_answer End.Reset tally place = Err (Clean place stop.Unsaid)
 clean_answer End.Head tally place = Err (Clean place stop.Unsaid)
@@ -35,7 +35,7 @@ clean_answer (End.Wait n) tally place = if n == 0 then Ok tally else Err (Clean 
 abbrev pub fault_of_head : HeadFault → Result (List Message) CleanFault
 fault_of_head f = Err (CleanFault.Reset (head_notification f).code (head_notification f).subcode)
 
--- of the messages behind the first
+-- of the messages after the first
 abbrev pub clean_rules : Context → (ℕ → Bool) → Limits → Rules (Result (List Message) CleanFault)
 clean_rules ctx drops limits = record {
   judge = record { of_message = cleaned ctx drops (refuses_in ctx limits) false; of_fault = fault_of_head; resets = is_err };
@@ -46,7 +46,7 @@ clean_rules ctx drops limits = record {
   answer = λ tally place. clean_answer tally.end tally place;
 }
 
--- The first message is handed on by itself where it is an OPEN that is: any other message is handed on wherever it stands
+-- The first message has a separate rule where it is an OPEN that is passed on: any other message is passed on at any position
 abbrev pub first_line : Context → (ℕ → Bool) → Limits → frame.Message → Kind → Option (List ℕ)
 first_line ctx drops limits m Kind.Open = option_map (octets_handed ctx) (result_ok (cleaned ctx drops (refuses_in ctx limits) true m))
 first_line ctx drops limits m _ = None
@@ -72,7 +72,7 @@ CleanedIn ctx drops limits = ReportedFrom (starts_in ctx drops limits)
 abbrev pub CleanedBy : List ℕ → (ℕ → Bool) → Limits → Reports
 CleanedBy theirs drops limits = ReportedFrom (starts_by theirs drops limits)
 
--- an answer without the words why it ended before a message: the offset says which
+-- an answer without the reason why it ended before a message: the offset says which
 abbrev pub without_words : Result Tally ToolFault → Result Tally ToolFault
 without_words (Err (Clean place (stop.At why))) = Err (Clean place stop.Unsaid)
 without_words answer = answer

@@ -7,7 +7,7 @@ use Rattle.bgp_engine.specs.Run.{Reports}
 use Rattle.bgp_engine.specs.Show.{class_of}
 use Rattle.bgp_engine.specs.Tally.{no_tally}
 
--- how a message in a context is printed: by its place, how many octets it has, these, what is at fault, and its outcome; and how the end is
+-- how a message in a context is printed: by its offset, its length, its octets, what is at fault, and its outcome; and how the end is
 pub record Form : Type 0 where
   pub message : Context → ℕ → ℕ → List ℕ → Option Fault → Outcome → List ℕ
   pub end : End → List ℕ
@@ -20,7 +20,7 @@ in_lines = record { message = explained_lines; end = end_line }
 abbrev pub in_json : Form
 in_json = record { message = explained_json; end = end_json }
 
--- the text of what is printed, of so many octets, where those at fault are marked that it is answered by a reset for
+-- the text that is printed for a message of this length, with the octets marked for which it is answered by a reset
 abbrev pub heard_text : Form → (Outcome → Bool) → Context → ℕ → ℕ → List ℕ → Heard → List ℕ
 heard_text form printed ctx place len octets h =
     if printed h.outcome then form.message ctx place len octets (fault_in ctx octets h.front) h.outcome else []

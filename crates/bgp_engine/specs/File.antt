@@ -18,7 +18,7 @@ abbrev pub open_by : Result Open OpenFault → Option Open
 open_by (Ok o) = Some o
 open_by (Err fault) = None
 
--- a message of this kind and body is an OPEN that is taken
+-- the OPEN with this body, where the kind is OPEN and it is accepted
 abbrev pub open_in : Kind → List ℕ → Option Open
 open_in Kind.Open body = open_by (reading_of body)
 open_in Kind.Update body = None
@@ -29,6 +29,6 @@ abbrev pub open_at : Option Message → Option Open
 open_at None = None
 open_at (Some m) = open_in m.kind m.body
 
--- the first message, where it is an OPEN that is taken
+-- the first message, where it is an OPEN that is accepted
 abbrev pub first_open : List ℕ → Option Open
 first_open octets = open_at (first_message octets)

@@ -1,4 +1,4 @@
--- What an engine makes of a stream whose first message it takes by a rule of its own.
+-- The reports of an engine on a stream whose first message it handles by a separate rule.
 use Rattle.std.specs.Prelude.{◌≡◌, ℕ, List, drop, length, Option, None, Some, Result, Ok, Err}
 use Rattle.bgp_engine.specs.Below.{Context, Message, octets_of}
 use Rattle.bgp_engine.specs.declared.class.Class.TheVariants as class
@@ -9,7 +9,7 @@ use Rattle.bgp_engine.specs.Report.{Report, behind}
 use Rattle.bgp_engine.specs.Rules.{Rules, counted, IsReport}
 use Rattle.bgp_engine.specs.Tally.{no_tally}
 
--- By what a stream is read, and what is written of its first message where a rule of its own takes that
+-- The rules for a stream, and what is written of its first message where a separate rule handles it
 pub record Start (Outcome : Type 0) : Type 0 where
   pub rules : Rules Outcome
   pub first : Option (List ℕ)
@@ -24,7 +24,7 @@ module _ {Outcome : Type 0} where
   start_by start (Ok ctx) = Ok (start ctx)
   start_by start (Err why) = Err why
 
-  -- the first message, of so many octets, was accepted by itself, with this written; what follows is read by the rules
+  -- the first message, of this length, was accepted by its own rule, with this written; what follows is read by the rules
   pub record IsBehindFirst (rules : Rules Outcome) (text : List ℕ) (len : ℕ) (stream : List ℕ) (r : Report) : Type 0 where
     pub report : Report
     pub rest : IsReport rules len (counted no_tally len class.Took) (drop len stream) report
@@ -39,7 +39,7 @@ module _ {Outcome : Type 0} where
   ReportedAs rules None len stream r = IsReport rules 0 no_tally stream r
   ReportedAs rules (Some text) len stream r = IsBehindFirst rules text len stream r
 
-  -- where one of so many octets is
+  -- where the first message is whole and has this length
   abbrev pub ReportedWith : Result (Start Outcome) NoContext → ℕ → List ℕ → Report → Type 0
   ReportedWith (Err why) len stream r = r ≡ unagreed why (unagreed_end stream)
   ReportedWith (Ok s) len stream r = ReportedAs s.rules s.first len stream r
@@ -48,6 +48,6 @@ module _ {Outcome : Type 0} where
   ReportedAt starts None stream r = ReportedWithout (starts None) stream r
   ReportedAt starts (Some m) stream r = ReportedWith (starts (Some m)) (length (octets_of m)) stream r
 
-  -- what a stream comes to that is read so
+  -- the report of a stream that is read so
   abbrev pub ReportedFrom : Starts Outcome → List ℕ → Report → Type 0
   ReportedFrom starts stream r = ReportedAt starts (first_message stream) stream r

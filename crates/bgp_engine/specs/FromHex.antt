@@ -5,7 +5,7 @@ use Rattle.bgp_engine.specs.Report.{Report}
 use Rattle.bgp_engine.specs.Run.{Reports}
 use Rattle.bgp_engine.specs.Tally.{no_tally}
 
--- the octets as they are: nothing is counted, and nothing waits
+-- the octets unchanged: nothing is counted, and nothing is incomplete
 abbrev pub copied : List ℕ → Report
 copied octets = record { lines = octets; last = []; end_of = end.Wait 0; answer = Ok no_tally }
 

@@ -1,4 +1,4 @@
--- What is printed of: a message, or a header with a fault, and what it comes to.
+-- What is printed: a message, or a header with a fault, and its outcome.
 use Rattle.bgp_engine.specs.Below.{List, ℕ, Option, Some, Result, Ok, Err, HeadFault, Message, StreamRules, Context, Outcome, is_reset, of_fault, out_of}
 use Rattle.bgp_engine.specs.Below.{Fault, Span, header_fault, header_place, reset_fault, reset_place}
 

@@ -17,8 +17,8 @@ spelled (c ∷ d ∷ text) =
     if is_blank c then spelled (d ∷ text) else (
     if is_hex_digit c then (if is_hex_digit d then (digit_value c * 16 + digit_value d) ∷ spelled text else []) else [])
 
--- the place of the first character that is bad, where the text begins at place n: one that is no digit in a pair, one between
--- pairs that is neither a digit nor a blank, or a digit that the text ends behind
+-- the offset of the first bad character, where the text begins at offset n: one in a pair that isn't a digit, one between
+-- pairs that is neither a digit nor a blank, or a digit after which the text ends
 unfoldable pub bad_from : ℕ → List ℕ → Option ℕ
 bad_from n [] = None
 bad_from n (c ∷ []) = if is_blank c then None else Some n

@@ -1,4 +1,4 @@
--- What `narrow` writes: the messages of a session with AS numbers of four octets, as a speaker with two octets is told them (RFC 6793).
+-- What `narrow` writes: the messages of a session with 4-octet AS numbers, as sent to a 2-octet speaker (RFC 6793).
 use Rattle.std.specs.Prelude.{ℕ, false, not, ◌&&◌, ◌==◌, List, [], Option, None, Some, is_none, unwrap_or, Result, Ok, Err, if◌then◌else◌}
 use Rattle.bgp_engine.specs.Below.{End, octets_of, Context, narrowed_update, with_as4, Outcome, out_of, canonical, is_valid, is_too_long}
 use Rattle.bgp_frame.specs.Frame as frame
@@ -15,14 +15,14 @@ use Rattle.bgp_engine.specs.Tally.{no_tally}
 abbrev pub written_in : Context → Message → Option (List ℕ)
 written_in ctx m = if is_valid ctx m && not (is_too_long ctx m) then Some (canonical ctx m) else None
 
--- an UPDATE is narrowed, and every other message goes on octet for octet
+-- an UPDATE is narrowed, and every other message is passed on unchanged
 abbrev pub narrowed_message : Context → frame.Message → Message → Option (List ℕ)
 narrowed_message ctx m (Message.Update u) = written_in (with_as4 false ctx) (Message.Update (narrowed_update u))
 narrowed_message ctx m (Message.Open o) = Some (octets_of m)
 narrowed_message ctx m (Message.Notification n) = Some (octets_of m)
 narrowed_message ctx m Message.Keepalive = Some (octets_of m)
 
--- only a message that is taken can be narrowed
+-- only a message that is accepted can be narrowed
 abbrev pub narrowed_outcome : Context → frame.Message → Outcome → Option (List ℕ)
 narrowed_outcome ctx m (Outcome.Took said notes) = narrowed_message ctx m said
 narrowed_outcome ctx m (Outcome.Withdraw routes notes) = None
@@ -32,7 +32,7 @@ abbrev pub narrowed_class : Option (List ℕ) → Class
 narrowed_class None = Class.Reset
 narrowed_class (Some octets) = Class.Took
 
--- the place where it can't go on, where there is one
+-- the offset where it can't continue, where there is one
 abbrev pub narrow_answer : End → Tally → ℕ → Result Tally ToolFault
 narrow_answer End.Reset tally place = Err (Narrow place)
 narrow_answer End.Head tally place = Err (Narrow place)

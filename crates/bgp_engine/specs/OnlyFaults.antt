@@ -3,7 +3,7 @@ use Rattle.std.specs.Prelude.{ℕ, Bool, true, false, List, [], ◌∷◌, Optio
 use Rattle.bgp_engine.specs.Below.{Outcome, Span}
 use Rattle.bgp_msg.specs.declared.message.Message.TheVariants as message
 
--- what isn't accepted without a note, and each NOTIFICATION
+-- every outcome but one accepted without a note, and each NOTIFICATION
 abbrev pub is_fault : Outcome → Bool
 is_fault (Outcome.Took (message.Notification n) notes) = true
 is_fault (Outcome.Took m []) = false

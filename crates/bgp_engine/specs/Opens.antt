@@ -1,4 +1,4 @@
--- What an engine makes of a stream in the context that its first OPEN and that of the other direction agree on.
+-- The reports of an engine on a stream in the context that its first OPEN and that of the other direction agree on.
 use Rattle.std.specs.Prelude.{◌≡◌, ℕ, Bool, true, List, [], length, Result, Ok, Err, if◌then◌else◌}
 use Rattle.bgp_engine.specs.Below.{End, Context}
 use Rattle.bgp_engine.specs.declared.fault.NoContext.{NoContext as Why}
@@ -17,7 +17,7 @@ use Rattle.bgp_engine.specs.ShowJson.{ShownJson}
 abbrev pub unagreed : Why → End → Report
 unagreed why e = record { lines = []; last = []; end_of = e; answer = Err (NoContext why) }
 
--- the octets of the first message wait, or it is there, and whatever follows it isn't read
+-- the first message is incomplete, or it is whole, and whatever follows it isn't read
 abbrev pub unagreed_end : List ℕ → End
 unagreed_end stream = if is_part stream then End.Wait (length stream) else End.Reset
 
@@ -29,12 +29,12 @@ ReportedIn (Err why) reports stream r = r ≡ unagreed why (unagreed_end stream)
 abbrev pub context_by : List ℕ → List ℕ → Result Context Why
 context_by theirs stream = agreed (first_open stream) (first_open theirs)
 
--- a context, where it will do
+-- a context, where it is suitable
 abbrev pub fit_of : (Context → Bool) → Result Context Why → Result Context Why
 fit_of fits (Err why) = Err why
 fit_of fits (Ok ctx) = if fits ctx then Ok ctx else Err NoOpen
 
--- what a stream comes to in the context that it and the octets of the other direction agree on, where that will do
+-- the report of a stream in the context that it and the octets of the other direction agree on, where that is suitable
 abbrev pub ReportedBy : (Context → Bool) → List ℕ → (Context → Reports) → Reports
 ReportedBy fits theirs reports stream r = ReportedIn (fit_of fits (context_by theirs stream)) reports stream r
 
@@ -47,6 +47,6 @@ ShownJsonBy theirs = ReportedBy (λ ctx. true) theirs ShownJson
 abbrev pub CheckedBy : List ℕ → Reports
 CheckedBy theirs = ReportedBy (λ ctx. true) theirs Checked
 
--- what is narrowed has AS numbers of four octets
+-- what is narrowed has 4-octet AS numbers
 abbrev pub NarrowedBy : List ℕ → Reports
 NarrowedBy theirs = ReportedBy (λ ctx. ctx.as4) theirs Narrowed

@@ -10,7 +10,7 @@ use Rattle.bgp_engine.specs.Show.{Shown, printed_rules, shown_lines}
 use Rattle.bgp_engine.specs.ShowJson.{ShownJson}
 use Rattle.bgp_engine.specs.Tally.{no_tally}
 
--- what is printed of a stream in a style: of all messages, or of those alone that aren't accepted without a note and of NOTIFICATIONs
+-- what is printed of a stream in a style: of all messages, or only of those that aren't accepted without a note and of NOTIFICATIONs
 abbrev pub Printed : Style → Bool → Context → Reports
 Printed Style.Lines false = Shown
 Printed Style.Lines true = λ ctx. IsReport (printed_rules (where_fault shown_lines) end_line ctx) 0 no_tally

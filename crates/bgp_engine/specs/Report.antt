@@ -12,17 +12,17 @@ pub record Report : Type 0 where
   pub end_of : End
   pub answer : Result Tally ToolFault
 
--- the same behind lines that were written before
+-- the same after lines that were written before
 abbrev pub behind : List ℕ → Report → Report
 behind lines r = record { lines = lines ++ r.lines; last = r.last; end_of = r.end_of; answer = r.answer }
 
--- nothing is said of why a cleaned stream ends before its stream does, but that a message is incomplete: who answers adds the words
+-- no reason is given why a cleaned stream ends before its source does, but that a message is incomplete: the caller adds it
 abbrev pub IsWordless : Stop → Type 0
 IsWordless Stop.Unsaid = Unit {0}
 IsWordless Stop.Incomplete = Unit {0}
 IsWordless (Stop.At why) = ⊥
 
--- the stream goes no further, whatever follows
+-- the stream has ended, whatever follows
 abbrev pub IsOver : End → Type 0
 IsOver End.Reset = Unit {0}
 IsOver End.Head = Unit {0}

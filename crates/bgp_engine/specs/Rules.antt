@@ -1,4 +1,4 @@
--- What an engine makes of the messages of a stream.
+-- How an engine reports the messages of a stream.
 use Rattle.std.specs.Prelude.{◌≡◌, ℕ, ◌+◌, ◌==◌, List, [], ◌∷◌, ◌++◌, take, drop, Result, if◌then◌else◌}
 use Rattle.bgp_engine.specs.Below.{End, StreamRules, Gives}
 use Rattle.bgp_engine.specs.declared.class.Class.{Class}
@@ -6,10 +6,10 @@ use Rattle.bgp_engine.specs.declared.tally.Tally.{Tally}
 use Rattle.bgp_engine.specs.declared.fault.ToolFault.{ToolFault}
 use Rattle.bgp_engine.specs.Report.{Report}
 
--- How messages and headers are judged; what is written of an outcome, at its place, with the octets that it takes in number, and with its
--- octets: those of a message, or the 19 of a header with a fault, which takes none; what it counts as;
--- what is written last, by the counts and the end, and of octets that wait; and the answer, by the counts, the end and the place behind
--- all messages that let the stream go on.
+-- How messages and headers are judged; what is written of an outcome, by its offset, its length, and its
+-- octets: those of a message, or the 19 of a header with a fault, whose length is 0; what it counts as;
+-- what is written last, by the counts and the end, and of an incomplete message; and the answer, by the counts, the end and the offset after
+-- all messages that let the stream continue.
 pub record Rules (Outcome : Type 0) : Type 0 where
   pub judge : StreamRules Outcome
   pub line : ℕ → ℕ → List ℕ → Outcome → List ℕ
@@ -18,11 +18,11 @@ pub record Rules (Outcome : Type 0) : Type 0 where
   pub rest : List ℕ → List ℕ
   pub answer : Tally → ℕ → Result Tally ToolFault
 
--- a whole message is one message; a header's fault, of no octets, is none
+-- a whole message is one message; a header's fault, of length 0, is none
 abbrev pub messages_in : ℕ → ℕ
 messages_in len = if len == 0 then 0 else 1
 
--- the octets of a message of so many, or of the header of one, at the front of a stream
+-- the octets of a message of this length, or of a faulty header, at the beginning of a stream
 abbrev pub octets_at : ℕ → List ℕ → List ℕ
 octets_at len stream = take (if len == 0 then 19 else len) stream
 
@@ -32,7 +32,7 @@ counted tally len Class.Withdrawn = record tally { messages = tally.messages + m
 counted tally len Class.Reset = record tally { messages = tally.messages + messages_in len; resets = tally.resets + 1 }
 
 module _ {Outcome : Type 0} (rules : Rules Outcome) where
-  -- the octets of an outcome that lets the stream go on
+  -- the octets of an outcome that lets the stream continue
   abbrev pub passed : ℕ × Outcome → ℕ
   passed o = if rules.judge.resets o.1 then 0 else o.0
 
@@ -40,7 +40,7 @@ module _ {Outcome : Type 0} (rules : Rules Outcome) where
   total [] = 0
   total (o ∷ outcomes) = passed o + total outcomes
 
-  -- what is written of each, each at the place behind those before it
+  -- what is written of each, each at the offset after those before it
   abbrev pub lines_from : ℕ → List ℕ → List (ℕ × Outcome) → List ℕ
   lines_from place stream [] = []
   lines_from place stream (o ∷ outcomes) =
@@ -50,13 +50,13 @@ module _ {Outcome : Type 0} (rules : Rules Outcome) where
   tally_from tally [] = tally
   tally_from tally (o ∷ outcomes) = tally_from (counted tally o.0 (rules.class o.1)) outcomes
 
-  -- what is written of the octets that wait
+  -- what is written of an incomplete message
   abbrev pub rest_of : List ℕ → End → List ℕ
   rest_of waiting End.Reset = []
   rest_of waiting End.Head = []
   rest_of waiting (End.Wait n) = rules.rest waiting
 
-  -- the report of a stream behind what was counted before, from its place on
+  -- the report of a stream after what was counted before, from its offset on
   abbrev pub report_of : ℕ → Tally → List ℕ → List (ℕ × Outcome) → End → Report
   report_of place tally stream outcomes e = record {
     lines = lines_from place stream outcomes;

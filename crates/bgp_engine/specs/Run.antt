@@ -8,7 +8,7 @@ use Rattle.bgp_engine.specs.HexText.{spelled, bad_from}
 use Rattle.bgp_engine.specs.Output.{IsFront}
 use Rattle.bgp_engine.specs.Report.{Report, IsOver, IsWaiting, IsWordless}
 
--- what a reader still has and a writer holds, before a call and behind it
+-- what a reader still has and a writer holds, before a call and after it
 pub record Io : Type 0 where
   pub reader_old : Option (List ℕ)
   pub reader_new : Option (List ℕ)
@@ -20,12 +20,12 @@ abbrev pub io : {R W : Type 0} → (R → Option (List ℕ)) → R → R → (W 
 io remaining input_old input_new contents output_old output_new =
     record { reader_old = remaining input_old; reader_new = remaining input_new; writer_old = contents output_old; writer_new = contents output_new }
 
--- the stream that a text is: as it stands, or as the hexadecimal text spells it
+-- the stream that a text is: as it is, or decoded from hexadecimal
 abbrev pub stream_of : Bool → List ℕ → List ℕ
 stream_of true text = spelled text
 stream_of false text = text
 
--- the place of the first bad character, which only hexadecimal text can have
+-- the offset of the first bad character, which only hexadecimal text can have
 abbrev pub bad_of : Bool → ℕ → List ℕ → Option ℕ
 bad_of true n text = bad_from n text
 bad_of false n text = None
@@ -48,15 +48,15 @@ pub record Finishes (reports : Reports) (hex : Bool) (io : Io) (tally : Tally) :
   pub wrote : Appends io.writer_old io.writer_new (report.lines ++ report.last)
   pub all_read : IsAllRead hex text io.reader_new report.end_of
 
--- n is the place of the first bad character, the text having ended behind it or going on as it may, and the octets before it don't end
+-- n is the offset of the first bad character, whether the text has ended after it or whatever follows, and the octets before it don't end
 -- the stream
 pub record IsBadAt (hex : Bool) (text : List ℕ) (reader_new : Option (List ℕ)) (e : End) (n : ℕ) : Type 0 where
   pub place : bad_of hex 0 text ≡ Some n
   pub is_certain : ((later : List ℕ) → bad_of hex 0 (text ++ later) ≡ Some n) ⊎ IsAtEnd reader_new
   pub not_over : IsWaiting e
 
--- what each fault says of the text, of its stream's report, and of what was written: a front of the lines; of all where the writer
--- failed; all of it where the stream can't be narrowed or cleaned, or has no context, and then there is nothing to write
+-- what each fault says of the text, of its stream's report, and of what was written: a prefix of the lines; of lines and last text where
+-- the writer failed; all of it where the stream can't be narrowed or cleaned, or has no context, and then there is nothing to write
 abbrev pub IsFaultOf : Bool → List ℕ → Option (List ℕ) → Report → List ℕ → ToolFault → Type 0
 IsFaultOf hex text reader_new report written ToolFault.Memory = IsFront written report.lines
 IsFaultOf hex text reader_new report written ToolFault.Read = IsFront written report.lines

@@ -13,7 +13,7 @@ class_of (Outcome.Took m notes) = Class.Took
 class_of (Outcome.Withdraw routes notes) = Class.Withdrawn
 class_of (Outcome.Reset n) = Class.Reset
 
--- the text of each outcome, with the octets for which it is a reset, and behind them that of the end
+-- the text of each outcome, with the octets for which it is a reset, and after them that of the end
 abbrev pub printed_rules : (ℕ → ℕ → Option Span → Outcome → List ℕ) → (End → List ℕ) → Context → Rules Heard
 printed_rules shown shown_end ctx = record {
   judge = heard_in ctx;

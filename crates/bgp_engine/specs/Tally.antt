@@ -8,13 +8,13 @@ use Rattle.bgp_engine.specs.declared.fault.ToolFault.{ToolFault}
 abbrev pub no_tally : Tally
 no_tally = record { messages = 0; took = 0; withdrawn = 0; resets = 0; end = End.Wait 0 }
 
--- nothing waits
+-- no message is incomplete
 abbrev pub has_ended : End → Bool
 has_ended End.Reset = false
 has_ended End.Head = false
 has_ended (End.Wait n) = n == 0
 
--- each message was taken, and nothing waits
+-- each message was accepted, and none is incomplete
 abbrev pub is_clean : Tally → Bool
 is_clean tally = (tally.withdrawn == 0 && tally.resets == 0) && has_ended tally.end
 

@@ -26,7 +26,7 @@ abbrev pub framed_class : Framed → Class
 framed_class (Ok m) = Class.Took
 framed_class (Err f) = Class.Reset
 
--- the octets that wait, if there are any
+-- the incomplete message, if there is one
 abbrev pub rest_line : List ℕ → List ℕ
 rest_line [] = []
 rest_line (octet ∷ octets) = codes "rest " ++ (encode_lower (octet ∷ octets) ++ 10 ∷ [])

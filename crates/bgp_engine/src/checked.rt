@@ -32,7 +32,7 @@ fn put_counts(text: &mut String, tally: &Tally) -> Result<(), AllocError>
     )
 }
 
-/// The counts alone.
+/// Only the counts.
 #[derive(Drop)]
 pub(crate) struct CheckPage {
     pub(crate) ctx: Context,
@@ -111,10 +111,10 @@ pub fn check<R: Read, W: Write>(
     check_within(alloc, u32::MAX, ctx, hex, input, output)
 }
 
-/// [`check`], with a reader that is asked at most so many times.
+/// [`check`], with a reader that is called at most `turns` times.
 ///
 /// # Errors
-/// As `check`; `Read` too where the reader was asked that often and hadn't ended.
+/// As `check`; `Read` too where that limit was reached before the reader ended.
 pub fn check_within<R: Read, W: Write>(
     alloc: Global,
     turns: u32,

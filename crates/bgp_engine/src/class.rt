@@ -9,11 +9,11 @@ use bgp_msg::OutcomeView;
 /// What an outcome is, for the counts and for what follows it.
 #[derive(Clone, Copy, PartialEq, Eq)]
 pub(crate) enum Class {
-    /// It is taken, or handed on.
+    /// It is accepted, or passed on.
     Took,
     /// The routes of an UPDATE are withdrawn.
     Withdrawn,
-    /// The stream ends behind it.
+    /// The stream ends after it.
     Reset,
 }
 

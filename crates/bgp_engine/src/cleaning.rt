@@ -22,7 +22,7 @@ use bgp_wire::OctetSet;
 use std::alloc::{AllocError, Global};
 use std::io::{Read, Write};
 
-/// The octets that are handed on.
+/// The octets that are passed on.
 #[derive(Drop)]
 pub(crate) struct CleanPage {
     pub(crate) ctx: Context,
@@ -31,12 +31,12 @@ pub(crate) struct CleanPage {
     /// Which announcements are withdrawn.
     pub(crate) limits: Limits,
     pub(crate) octets: Vec<u8>,
-    /// Why nothing was handed on of the message where it ends.
+    /// Why nothing was passed on of the message where it ends.
     pub(crate) why: Option<CleanFault>,
 }
 
 impl CleanPage {
-    /// Hands on an OPEN as the first message of the stream, where it can be.
+    /// Passes on an OPEN as the first message of the stream, where it can be.
     fn open(&mut self, frame: Frame<'_>) -> Result<bool, AllocError>
         requires length { IsLength frame.kind (19 + length frame.body.now) }
         requires kind { frame.kind ≡ kind.Open }
@@ -86,7 +86,7 @@ impl Page for CleanPage {
         true
     }
 
-    // An OPEN is handed on as the first message by a rule of its own.
+    // An OPEN as the first message is passed on by a separate rule.
     fn first(&mut self, frame: Frame<'_>) -> Result<bool, AllocError> {
         if frame.kind != Kind::Open {
             return Ok(false);
@@ -105,7 +105,7 @@ impl Page for CleanPage {
         )? {
             Cleaned::HandedOn => Ok(Class::Took),
             Cleaned::Ends(why) => {
-                // Of the first message it may be known already.
+                // For the first message the reason may be known already.
                 if self.why.is_none() {
                     self.why = Some(why);
                 }
@@ -144,7 +144,7 @@ impl Page for CleanPage {
     }
 }
 
-// The answer, with the words why it ended before a message.
+// The answer, with the reason why it ended before a message.
 fn with_words(answer: Result<Tally, ToolFault>, why: Option<CleanFault>) -> Result<Tally, ToolFault>
     requires { without_words answer ≡ answer }
     ensures { without_words result ≡ answer }
@@ -174,13 +174,15 @@ fn clean_page<R: Read, W: Write>(
     with_words(answer, starting.walk.page.why)
 }
 
-/// Writes what is handed on of each message of a stream, in a context: well formed messages, whatever comes (RFC 7606). An UPDATE that is accepted goes on
-/// by its parts, in their written form, without what is discarded and without the unrecognised attributes whose types are in `drops`; routes whose
-/// announcement `limits` refuse are withdrawn, as are all routes of one that is treated as a withdrawal. It reads as `show` does, and each message that is handed on counts as accepted.
+/// Writes what is passed on of each message of a stream, in a context: well formed messages, whatever arrives (RFC
+/// 7606). An UPDATE that is accepted is passed on in its parts, in their written form, without what is discarded and
+/// without the unrecognised attributes whose types are in `drops`; routes whose announcement `limits` refuse are
+/// withdrawn, as are all routes of one that is treated as a withdrawal. It reads as `show` does, and each message that
+/// is passed on counts as accepted.
 ///
 /// # Errors
-/// As `show`; `Clean` with the offset of the first message of which nothing is handed on, of a header with a fault, or of an incomplete message, and why.
-/// What was written before a fault stands.
+/// As `show`; `Clean` with the offset of the first message of which nothing is passed on, of a header with a fault, or
+/// of an incomplete message, and why. What was written before a fault remains.
 pub fn clean_stream<R: Read, W: Write>(
     alloc: Global,
     ctx: &Context,
@@ -195,10 +197,10 @@ pub fn clean_stream<R: Read, W: Write>(
     clean_within(alloc, u32::MAX, ctx, drops, limits, hex, input, output)
 }
 
-/// [`clean_stream`], with a reader that is asked at most so many times.
+/// [`clean_stream`], with a reader that is called at most `turns` times.
 ///
 /// # Errors
-/// As `clean_stream`; `Read` too where the reader was asked that often and hadn't ended.
+/// As `clean_stream`; `Read` too where that limit was reached before the reader ended.
 pub fn clean_within<R: Read, W: Write>(
     alloc: Global,
     turns: u32,
@@ -221,8 +223,8 @@ pub fn clean_within<R: Read, W: Write>(
     clean_page(alloc, turns, None, hex, page, input, output)
 }
 
-/// [`clean_stream`] in the context that the stream's first OPEN and that of the other direction agree on, of which `theirs` has the octets, from its first
-/// one on: the first message is enough.
+/// [`clean_stream`] in the context that the stream's first OPEN and that of the other direction agree on. `theirs` has
+/// the octets of the other direction, from its first message on: that message is enough.
 ///
 /// # Errors
 /// As `clean_stream`; `NoContext` where the first message of the stream, or of `theirs`, isn't a complete, valid OPEN, or where both agree on path identifiers
@@ -241,10 +243,10 @@ pub fn clean_by_opens<R: Read, W: Write>(
     clean_by_opens_within(alloc, u32::MAX, theirs, drops, limits, hex, input, output)
 }
 
-/// [`clean_by_opens`], with a reader that is asked at most so many times.
+/// [`clean_by_opens`], with a reader that is called at most `turns` times.
 ///
 /// # Errors
-/// As `clean_by_opens`; `Read` too where the reader was asked that often and hadn't ended.
+/// As `clean_by_opens`; `Read` too where that limit was reached before the reader ended.
 pub fn clean_by_opens_within<R: Read, W: Write>(
     alloc: Global,
     turns: u32,

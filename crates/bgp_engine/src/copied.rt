@@ -12,7 +12,7 @@ use bgp_frame::End;
 use std::alloc::{AllocError, Global};
 use std::io::{Read, Write};
 
-/// Octets as they are.
+/// Octets unchanged.
 #[derive(Drop)]
 struct Copier {
     octets: Vec<u8>,
@@ -60,12 +60,12 @@ impl Engine for Copier {
     }
 }
 
-/// Writes the octets that hexadecimal text spells: pairs of digits of either case, with spaces, CR and LF between pairs. It reads as
-/// `show` does, and counts nothing.
+/// Writes the octets of hexadecimal text: pairs of digits of either case, with spaces, CR and LF between pairs. It
+/// reads as `show` does, and counts nothing.
 ///
 /// # Errors
-/// `Memory`, `Read` and `Write` at once, without a second try; `BadHex` at the first bad character. What was written before a fault
-/// stands.
+/// `Memory`, `Read` and `Write` at once, without a second try; `BadHex` at the first bad character. What was written
+/// before a fault remains.
 pub fn from_hex<R: Read, W: Write>(
     alloc: Global,
     input: &mut R,
@@ -76,10 +76,10 @@ pub fn from_hex<R: Read, W: Write>(
     from_hex_within(alloc, u32::MAX, input, output)
 }
 
-/// [`from_hex`], with a reader that is asked at most so many times.
+/// [`from_hex`], with a reader that is called at most `turns` times.
 ///
 /// # Errors
-/// As `from_hex`; `Read` too where the reader was asked that often and hadn't ended.
+/// As `from_hex`; `Read` too where that limit was reached before the reader ended.
 pub fn from_hex_within<R: Read, W: Write>(
     alloc: Global,
     turns: u32,

@@ -1,4 +1,4 @@
-//! What stands between a reader and a writer.
+//! What processes a stream between a reader and a writer.
 
 ghost use Rattle.std.specs.Prelude.{ℕ, List, Bool, ◌≡◌, ◌+◌, ◌≤◌, [], length, IfOk, OnOk, OnErr};
 ghost use Rattle.bgp_engine.specs.Report.{Report};
@@ -8,27 +8,27 @@ use crate::fault::ToolFault;
 use crate::tally::Tally;
 use std::alloc::AllocError;
 
-/// Takes the octets of a stream block by block, and collects what is written of them.
+/// Processes the octets of a stream block by block, and collects what is written for them.
 pub(crate) trait Engine {
     ghost use Rattle.std.specs.Prelude.{ℕ, List};
     ghost use Rattle.bgp_engine.specs.Report.{Report};
 
-    /// Where it stands in its stream.
+    /// Its state in its stream.
     ghost State: { Type 0 };
 
     ghost state: { Self → State };
     /// What isn't written yet.
     ghost told: { Self → List ℕ };
-    /// What is reported of the rest of the stream.
+    /// The report of the rest of the stream.
     ghost reports: { State → List ℕ → Report → Type 0 };
     /// The stream isn't over.
     ghost going: { State → Type 0 };
     /// It can be closed.
     ghost ready: { State → Type 0 };
-    /// How many octets more can be counted.
+    /// How many more octets can be counted.
     ghost room: { State → ℕ };
 
-    /// Takes the next octets of the stream. Answers whether it is over.
+    /// Processes the next octets of the stream. Answers whether it is over.
     fn take(&mut self, octets: &[u8]) -> Result<bool, AllocError>
         requires going { going (state self.old) }
         requires room { length octets.now ≤ room (state self.old) }
@@ -46,7 +46,7 @@ pub(crate) trait Engine {
     fn told(&self) -> &[u8]
         ensures { result.now ≡ told self.now };
 
-    /// Lets go of what was collected.
+    /// Drops what was collected.
     fn clear(&mut self)
         ensures told { told self.new ≡ [] }
         ensures state { state self.new ≡ state self.old };

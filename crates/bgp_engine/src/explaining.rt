@@ -20,7 +20,7 @@ use bgp_open::Context;
 use bgp_update::UpdateView;
 use std::alloc::{AllocError, Global};
 
-/// What each message comes to, and its fields.
+/// The outcome of each message, and its fields.
 #[derive(Drop)]
 pub(crate) struct ExplainPage<F, C> {
     alloc: Global,
@@ -60,7 +60,8 @@ fn put_octets(frame: Frame<'_>, octets: &mut Vec<u8>) -> Result<(), AllocError>
 }
 
 impl<F: FieldForm, C: Choice> ExplainPage<F, C> {
-    /// Adds the text of a message of so many octets, or of a header's fault, of which these are held, where it is printed.
+    /// Adds the text of a message of this length, or of a header's fault, of which these octets are held, where it is
+    /// printed.
     fn put(
         &mut self,
         place: u64,

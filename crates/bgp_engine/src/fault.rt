@@ -10,13 +10,13 @@ use thiserror::Error;
 /// Why a cleaned stream ends before its stream does.
 #[derive(Clone, Copy, Debug, PartialEq, Eq, Error)]
 pub enum Stop {
-    /// It isn't said.
+    /// No reason is given.
     #[error("unsaid")]
     Unsaid,
     /// The message is incomplete.
     #[error("an incomplete message")]
     Incomplete,
-    /// Nothing is handed on of the message.
+    /// Nothing is passed on of the message.
     #[error("{0}")]
     At(CleanFault),
 }
@@ -24,11 +24,11 @@ pub enum Stop {
 /// Why there is no context to read a stream in.
 #[derive(Clone, Copy, Debug, PartialEq, Eq, Error)]
 pub enum NoContext {
-    /// The first message of the stream, or of the other direction, is no OPEN that is accepted; or AS numbers of four octets are needed, and the
-    /// two OPENs don't agree on them.
+    /// The first message of the stream, or of the other direction, isn't an OPEN that is accepted; or 4-octet AS
+    /// numbers are needed, and the two OPENs don't agree on them.
     #[error("no OPEN to agree with")]
     NoOpen,
-    /// Its routes have path identifiers (ADD-PATH; RFC 7911), so that they would be read as others.
+    /// Its routes have path identifiers (ADD-PATH; RFC 7911), so that they would be misread.
     #[error("both OPENs agree on path identifiers (RFC 7911), which aren't read")]
     Paths,
 }
@@ -39,7 +39,7 @@ pub enum ToolFault {
     /// An allocation failed.
     #[error("memory")]
     Memory,
-    /// A read failed, or the reader was asked too often.
+    /// A read failed, or the reader was called too often.
     #[error("read failed")]
     Read,
     /// A write failed, or wrote no octet.
@@ -51,7 +51,8 @@ pub enum ToolFault {
     /// The message, the faulty header or the incomplete message at this offset of the stream, counted from 0, can't be narrowed.
     #[error("cannot narrow at {0}")]
     Narrow(u64),
-    /// Nothing is handed on of the message, the faulty header or the incomplete message at this offset of the stream, counted from 0.
+    /// Nothing is passed on of the message, the faulty header or the incomplete message at this offset of the stream,
+    /// counted from 0.
     #[error("cannot clean at {0}: {1}")]
     Clean(u64, Stop),
     /// This line of a script is the first at fault, counted from 1.

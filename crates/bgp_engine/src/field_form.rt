@@ -20,7 +20,7 @@ pub(crate) trait FieldForm {
     /// Their texts.
     ghost form: { Form };
 
-    /// Adds the text of a message of so many octets in a context, or of a header's fault, of which these are held.
+    /// Adds the text of a message of this length in a context, or of a header's fault, of which these octets are held.
     fn put_message(
         &self,
         alloc: Global,

@@ -8,7 +8,7 @@ use bgp_frame::{Frame, Kind, Step, front};
 use bgp_open::{Open, view_open};
 use std::alloc::{AllocError, Global};
 
-/// The message as an OPEN, where it is one that is taken.
+/// The message as an OPEN, where it is one that is accepted.
 pub(crate) fn open_in(alloc: Global, frame: Frame<'_>) -> Result<Option<Open>, AllocError>
     requires { IsLength frame.kind (19 + length frame.body.now) }
     ensures { IfOk result (λ found. found ≡ open_in frame.entry.kind frame.entry.body.now) }
@@ -22,7 +22,7 @@ pub(crate) fn open_in(alloc: Global, frame: Frame<'_>) -> Result<Option<Open>, A
     }
 }
 
-/// The first message of the octets, where it is whole, and an OPEN that is taken.
+/// The first message of the octets, where it is whole, and an OPEN that is accepted.
 pub(crate) fn first_open(alloc: Global, octets: &[u8]) -> Result<Option<Open>, AllocError>
     ensures { IfOk result (λ found. found ≡ first_open octets.now) }
 {

@@ -14,7 +14,7 @@ pub(crate) trait Form {
     ghost use Rattle.std.specs.Prelude.{ℕ, List, Option, ◌≡◌, ◌++◌, OnOk};
     ghost use Rattle.bgp_engine.specs.Below.{string_bytes, End, Outcome, outcome_value, Span};
 
-    /// The text of an outcome, at its place, of a message of so many octets, with those of them for which it is a reset.
+    /// The text of an outcome, by the offset and the length of its message, and the octets for which it is a reset.
     ghost shown: { ℕ → ℕ → Option Span → Outcome → List ℕ };
     /// The text of the end.
     ghost shown_end: { End → List ℕ };

@@ -1,4 +1,4 @@
-//! The octets for which a message is answered by a reset, and the test.
+//! The octets for which a message is answered by a reset, and the reason.
 
 ghost use Rattle.std.specs.Prelude.{◌≡◌, ◌+◌, length};
 ghost use Rattle.bgp_engine.specs.Below.{IsLength, message_in, out_of, outcome_value, reset_fault, reset_place};
@@ -8,7 +8,7 @@ use bgp_frame::Frame;
 use bgp_msg::OutcomeView;
 use bgp_open::Context;
 
-/// The octets for which a message of this outcome is answered by a reset, where it is: they are looked for there alone.
+/// The octets for which a message of this outcome is answered by a reset, where it is: they are looked for only there.
 pub(crate) fn span_of(ctx: &Context, frame: Frame<'_>, outcome: &OutcomeView<'_>) -> Option<Span>
     requires length { IsLength frame.kind (19 + length frame.body.now) }
     requires outcome { outcome_value outcome.now ≡ out_of ctx.now (message_in frame) }

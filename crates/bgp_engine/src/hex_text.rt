@@ -1,4 +1,4 @@
-//! Hexadecimal text, in whatever blocks it comes.
+//! Hexadecimal text, however it is cut into blocks.
 
 ghost use Rattle.std.specs.Prelude.{◌≡◌, ◌+◌, ◌*◌, ◌≤◌, ◌<◌, ◌^◌, true, None, is_some, IfSome};
 ghost use Rattle.bgp_engine.specs.Below.{ForSome, hex_digit_value, is_hex_digit};
@@ -7,24 +7,24 @@ ghost use Rattle.bgp_engine.specs.steps.HexDigits.{value_or_none, FirstPair, IsP
 
 use arrayvec::ArrayVec;
 
-/// Where a reader of hexadecimal text stands.
+/// The state of a reader of hexadecimal text.
 #[derive(Clone, Copy)]
 pub(crate) struct HexText {
-    /// The first digit of a pair whose second is still to come.
+    /// The first digit of a pair whose second hasn't been read.
     pub(crate) pending: Option<u8>,
-    /// How many characters were read.
+    /// The number of characters read.
     pub(crate) seen: u64,
     ghost is_digit: { ForSome pending (λ c. is_hex_digit c ≡ true) },
     ghost is_seen: { ForSome pending (λ _. 0 < seen) },
 }
 
-/// What a character comes to.
+/// The result of a character.
 #[derive(Clone, Copy)]
 pub(crate) enum Taken {
     /// A blank, or the first digit of a pair.
     Nothing,
     Octet(u8),
-    /// It is no part of hexadecimal text.
+    /// It isn't allowed in hexadecimal text.
     Bad,
 }
 
@@ -40,8 +40,8 @@ fn is_blank(character: u8) -> bool
     matches!(character, b' ' | b'\r' | b'\n')
 }
 
-// The value of each character as a digit of either case: 255 where it is none. Which digit comes next can't be foreseen, and so a table is
-// faster than comparisons.
+// The value of each character as a digit of either case: 255 where it isn't one. The next digit can't be predicted, and
+// so a table is faster than comparisons.
 static VALUES: [u8; 256] = [
     255, 255, 255, 255, 255, 255, 255, 255, 255, 255, 255, 255, 255, 255, 255, 255, 255, 255, 255,
     255, 255, 255, 255, 255, 255, 255, 255, 255, 255, 255, 255, 255, 255, 255, 255, 255, 255, 255,
@@ -59,7 +59,7 @@ static VALUES: [u8; 256] = [
     255, 255, 255,
 ];
 
-// The value of a character as a digit: 255 where it is none.
+// The value of a character as a digit: 255 where it isn't one.
 fn value(character: u8) -> u8
     ensures { result ≡ value_or_none character }
 {
@@ -100,7 +100,7 @@ fn octet_of(high: u8, low: u8) -> Option<u8>
     }
 }
 
-// The octet of the pair of digits at the front, and what stands behind it.
+// The octet of the first pair of digits, and the text after it.
 #[tactic(auto, using(crate::proofs::HexReads::first_pair_of))]
 fn first_pair(text: &[u8]) -> Option<(u8, &[u8])>
     ensures { IfSome result (λ r. FirstPair text.entry.now r.1.now r.0) }
@@ -118,7 +118,7 @@ impl HexText {
     ghost use Rattle.std.specs.Option.{option_map};
     ghost use Rattle.bgp_engine.specs.steps.HexSteps.{ReadsOn, Continues, Breaks, ReadsPairs};
 
-    /// A reader at the front of a text.
+    /// A reader at the beginning of a text.
     pub(crate) fn new() -> HexText
         ensures pending { result.pending ≡ None }
         ensures seen { result.seen ≡ 0 }
@@ -129,7 +129,7 @@ impl HexText {
         }
     }
 
-    /// The place of a digit whose pair is still to come.
+    /// The offset of a digit whose pair is incomplete.
     pub(crate) fn waiting_digit(&self) -> Option<u64>
         ensures { result ≡ option_map (λ _. self.now.seen - 1) self.now.pending }
     {
@@ -166,7 +166,8 @@ impl HexText {
         }
     }
 
-    /// Reads pairs of digits from the front, where none waits for its pair. Answers what is left of the text.
+    /// Reads pairs of digits from the beginning of the text, unless a first digit is pending. Answers the rest of the
+    /// text.
     fn take_pairs<'a>(&mut self, text: &'a [u8], octets: &mut ArrayVec<u8, 2048>) -> &'a [u8]
         requires room { 2 * length octets.old.items + length text.now ≤ 4097 }
         requires countable { self.old.seen + length text.now < 2 ^ 64 }
@@ -184,9 +185,9 @@ impl HexText {
         rest
     }
 
-    /// Reads a block of at most 4096 characters, and puts the octets of its pairs in order.
+    /// Reads a block of at most 4096 characters, and writes the octets of its pairs in order.
     ///
-    /// Answers the place of the first bad character, if there is one; nothing behind it is read.
+    /// Answers the offset of the first bad character, if there is one; nothing after it is read.
     pub(crate) fn decode(&mut self, text: &[u8], octets: &mut ArrayVec<u8, 2048>) -> Option<u64>
         requires none_yet { octets.old.items ≡ [] }
         requires short { length text.now ≤ 4096 }

@@ -17,7 +17,7 @@ use hex::encode_to_slice;
 use std::alloc::{AllocError, Global};
 use std::io::{Read, Write};
 
-// Octets as digits, in their place.
+// Appends octets as digits.
 fn put_digits(text: &mut Vec<u8>, octets: &[u8]) -> Result<(), AllocError>
     requires { length octets.now ≤ 4096 }
     ensures { OnOk result (text.new.items ≡ text.old.items ++ encode_lower octets.now) }
@@ -48,7 +48,7 @@ fn put_fault(alloc: Global, text: &mut Vec<u8>, fault: HeadFault) -> Result<(), 
     text.extend_from_slice(b"\n")
 }
 
-// The octets that wait, if there are any.
+// The incomplete message, if there is one.
 fn put_rest(alloc: Global, text: &mut Vec<u8>, waiting: &[u8]) -> Result<(), AllocError>
     ensures { OnOk result (text.new.items ≡ text.old.items ++ rest_line waiting.now) }
 {
@@ -121,11 +121,11 @@ impl Page for HexPage {
     }
 }
 
-/// Prints each whole message of a stream as one line of hexadecimal digits, without judging its body; behind them a header's fault or an
-/// incomplete message. It reads as `show` does.
+/// Prints each whole message of a stream as one line of hexadecimal digits, without judging its body; after them a
+/// header's fault or an incomplete message. It reads as `show` does.
 ///
 /// # Errors
-/// `Memory`, `Read` and `Write` at once, without a second try. What was written before a fault stands.
+/// `Memory`, `Read` and `Write` at once, without a second try. What was written before a fault remains.
 pub fn to_hex<R: Read, W: Write>(
     alloc: Global,
     input: &mut R,
@@ -136,10 +136,10 @@ pub fn to_hex<R: Read, W: Write>(
     to_hex_within(alloc, u32::MAX, input, output)
 }
 
-/// [`to_hex`], with a reader that is asked at most so many times.
+/// [`to_hex`], with a reader that is called at most `turns` times.
 ///
 /// # Errors
-/// As `to_hex`; `Read` too where the reader was asked that often and hadn't ended.
+/// As `to_hex`; `Read` too where that limit was reached before the reader ended.
 pub fn to_hex_within<R: Read, W: Write>(
     alloc: Global,
     turns: u32,

@@ -21,7 +21,7 @@ use bgp_wire::are_octets;
 use std::alloc::{AllocError, Global};
 use std::io::{Read, Write};
 
-// Appends a message as it came.
+// Appends a message unchanged.
 fn put_frame(octets: &mut Vec<u8>, frame: Frame<'_>) -> Result<(), AllocError>
     requires { IsLength frame.kind (19 + length frame.body.now) }
     ensures { OnOk result (octets.new.items ≡ octets.old.items ++ octets_of (message_in frame.entry)) }
@@ -32,7 +32,7 @@ fn put_frame(octets: &mut Vec<u8>, frame: Frame<'_>) -> Result<(), AllocError>
     Ok(())
 }
 
-// Appends an UPDATE that is taken as a speaker with AS numbers of two octets is told it.
+// Appends an accepted UPDATE as sent to a speaker with 2-octet AS numbers.
 fn put_view(
     alloc: Global,
     ctx: &Context,
@@ -49,7 +49,8 @@ fn put_view(
     }
 }
 
-// Appends a message as it is handed on. An UPDATE that is taken where numbers have four octets has none of the attributes for two.
+// Appends a message as it is passed on. An UPDATE that is accepted with 4-octet AS numbers has neither AS4_PATH nor
+// AS4_AGGREGATOR.
 fn put_told(
     alloc: Global,
     ctx: &Context,
@@ -72,7 +73,7 @@ fn put_told(
     }
 }
 
-/// The octets that are handed on, in a session with AS numbers of four octets.
+/// The octets that are passed on, in a session with 4-octet AS numbers.
 #[derive(Drop)]
 pub(crate) struct NarrowPage {
     pub(crate) alloc: Global,
@@ -140,12 +141,13 @@ impl Page for NarrowPage {
     }
 }
 
-/// Writes a stream of messages with AS numbers of four octets as one for a speaker with two (RFC 6793, section 4.2.2): each UPDATE narrowed,
-/// every other message octet for octet. It reads as `show` does, and each whole message counts as accepted.
+/// Writes a stream of messages with 4-octet AS numbers as one for a 2-octet speaker (RFC 6793, section 4.2.2): each
+/// UPDATE narrowed, every other message unchanged. It reads as `show` does, and each whole message counts as accepted.
 ///
 /// # Errors
-/// `Memory`, `Read` and `Write` at once, without a second try; `Narrow` with the offset of the first message that isn't accepted, or that can't
-/// be written, of a header with a fault, or of an incomplete message. What was written before a fault stands.
+/// `Memory`, `Read` and `Write` at once, without a second try; `Narrow` with the offset of the first message that isn't
+/// accepted, or that can't be written, of a header with a fault, or of an incomplete message. What was written before a
+/// fault remains.
 pub fn narrow_stream<R: Read, W: Write>(
     alloc: Global,
     ctx: &Context,
@@ -158,10 +160,10 @@ pub fn narrow_stream<R: Read, W: Write>(
     narrow_within(alloc, u32::MAX, ctx, input, output)
 }
 
-/// [`narrow_stream`], with a reader that is asked at most so many times.
+/// [`narrow_stream`], with a reader that is called at most `turns` times.
 ///
 /// # Errors
-/// As `narrow_stream`; `Read` too where the reader was asked that often and hadn't ended.
+/// As `narrow_stream`; `Read` too where that limit was reached before the reader ended.
 pub fn narrow_within<R: Read, W: Write>(
     alloc: Global,
     turns: u32,

@@ -62,7 +62,7 @@ impl Choice for Faulty {
     }
 }
 
-/// A form in which these alone are printed.
+/// A form in which only these are printed.
 #[derive(Drop)]
 pub(crate) struct OnlyFaults<F> {
     pub(crate) form: F,

@@ -1,4 +1,4 @@
-//! The messages of a stream whose first one tells the context.
+//! The messages of a stream whose first one determines the context.
 
 ghost use Rattle.std.specs.Prelude.{◌≡◌, ◌+◌, [], None, Some, length, IfOk};
 ghost use Rattle.bgp_engine.specs.Below.{IsLength, Message, Context};
@@ -14,7 +14,7 @@ use bgp_open::{Context, Open, agree_on_paths, agreed_context};
 use std::alloc::{AllocError, Global};
 use std::io::{Read, Write};
 
-/// How far a stream has come.
+/// The stage of a stream.
 #[derive(Clone, Copy, PartialEq, Eq)]
 pub(crate) enum Stage {
     /// The first message is incomplete.
@@ -25,7 +25,7 @@ pub(crate) enum Stage {
     Unagreed(NoContext),
 }
 
-// The context in which what the speaker of one OPEN sends the other is read.
+// The context for the messages from the speaker of one OPEN to the other.
 fn agreed(ours: &Open, theirs: &Open) -> Result<Context, NoContext>
     ensures { result ≡ agreed (Some ours.now) (Some theirs.now) }
 {

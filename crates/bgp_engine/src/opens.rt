@@ -14,7 +14,7 @@ use bgp_open::Context;
 use std::alloc::Global;
 use std::io::{Read, Write};
 
-/// What a page has for a context before one is agreed on: nothing is judged in it.
+/// The context of a page before one is agreed on: nothing is judged in it.
 pub(crate) const UNKNOWN: Context = Context {
     internal: false,
     as4: true,
@@ -23,8 +23,8 @@ pub(crate) const UNKNOWN: Context = Context {
     hold: 0,
 };
 
-/// [`show`](crate::show) in the context that the stream's first OPEN and that of the other direction agree on, of which `theirs` has the
-/// octets, from its first one on: the first message is enough.
+/// [`show`](crate::show) in the context that the stream's first OPEN and that of the other direction agree on. `theirs`
+/// has the octets of the other direction, from its first message on: that message is enough.
 ///
 /// # Errors
 /// As `show`; `NoContext` where the first message of the stream, or of `theirs`, isn't a complete, valid OPEN, or where both agree on path identifiers for
@@ -41,10 +41,10 @@ pub fn show_by_opens<R: Read, W: Write>(
     show_by_opens_within(alloc, u32::MAX, theirs, hex, input, output)
 }
 
-/// [`show_by_opens`], with a reader that is asked at most so many times.
+/// [`show_by_opens`], with a reader that is called at most `turns` times.
 ///
 /// # Errors
-/// As `show_by_opens`; `Read` too where the reader was asked that often and hadn't ended.
+/// As `show_by_opens`; `Read` too where that limit was reached before the reader ended.
 pub fn show_by_opens_within<R: Read, W: Write>(
     alloc: Global,
     turns: u32,
@@ -75,10 +75,10 @@ pub fn show_json_by_opens<R: Read, W: Write>(
     show_json_by_opens_within(alloc, u32::MAX, theirs, hex, input, output)
 }
 
-/// [`show_json_by_opens`], with a reader that is asked at most so many times.
+/// [`show_json_by_opens`], with a reader that is called at most `turns` times.
 ///
 /// # Errors
-/// As `show_json_by_opens`; `Read` too where the reader was asked that often and hadn't ended.
+/// As `show_json_by_opens`; `Read` too where that limit was reached before the reader ended.
 pub fn show_json_by_opens_within<R: Read, W: Write>(
     alloc: Global,
     turns: u32,
@@ -109,10 +109,10 @@ pub fn check_by_opens<R: Read, W: Write>(
     check_by_opens_within(alloc, u32::MAX, theirs, hex, input, output)
 }
 
-/// [`check_by_opens`], with a reader that is asked at most so many times.
+/// [`check_by_opens`], with a reader that is called at most `turns` times.
 ///
 /// # Errors
-/// As `check_by_opens`; `Read` too where the reader was asked that often and hadn't ended.
+/// As `check_by_opens`; `Read` too where that limit was reached before the reader ended.
 pub fn check_by_opens_within<R: Read, W: Write>(
     alloc: Global,
     turns: u32,
@@ -130,10 +130,11 @@ pub fn check_by_opens_within<R: Read, W: Write>(
     open_stream(alloc, turns, theirs, hex, page, input, output)
 }
 
-/// [`narrow_stream`](crate::narrow_stream) in the context that both OPENs agree on, as in [`show_by_opens`]: with AS numbers of four octets.
+/// [`narrow_stream`](crate::narrow_stream) in the context that both OPENs agree on, as in [`show_by_opens`]: with
+/// 4-octet AS numbers.
 ///
 /// # Errors
-/// As `narrow_stream`; `NoContext` as in `show_by_opens`, and where they don't agree on AS numbers of four octets.
+/// As `narrow_stream`; `NoContext` as in `show_by_opens`, and where they don't agree on 4-octet AS numbers.
 pub fn narrow_by_opens<R: Read, W: Write>(
     alloc: Global,
     theirs: &[u8],
@@ -145,10 +146,10 @@ pub fn narrow_by_opens<R: Read, W: Write>(
     narrow_by_opens_within(alloc, u32::MAX, theirs, input, output)
 }
 
-/// [`narrow_by_opens`], with a reader that is asked at most so many times.
+/// [`narrow_by_opens`], with a reader that is called at most `turns` times.
 ///
 /// # Errors
-/// As `narrow_by_opens`; `Read` too where the reader was asked that often and hadn't ended.
+/// As `narrow_by_opens`; `Read` too where that limit was reached before the reader ended.
 pub fn narrow_by_opens_within<R: Read, W: Write>(
     alloc: Global,
     turns: u32,

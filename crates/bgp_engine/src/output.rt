@@ -1,4 +1,4 @@
-//! Text to a writer.
+//! Writing text.
 
 ghost use Rattle.bgp_engine.specs.Below.{OnOk, IfErr, Appends};
 ghost use Rattle.bgp_engine.specs.Prelude.{FailsWithin};
@@ -6,10 +6,10 @@ ghost use Rattle.bgp_engine.specs.Prelude.{FailsWithin};
 use crate::fault::ToolFault;
 use std::io::Write;
 
-/// Writes the whole text, and tries nothing twice.
+/// Writes the whole text, without a second try.
 ///
 /// # Errors
-/// `Write` where a write fails or writes no octet; what was written before stands.
+/// `Write` where a write fails or writes no octet; what was written before remains.
 pub fn put<W: Write>(output: &mut W, text: &[u8]) -> Result<(), ToolFault>
     ensures ok { OnOk result (Appends (W.contents output.old) (W.contents output.new) text.now) }
     ensures err { IfErr result (FailsWithin (W.contents output.old) (W.contents output.new) text.now) }

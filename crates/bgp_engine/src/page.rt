@@ -26,21 +26,21 @@ pub(crate) trait Page {
     ghost told: { Self → List ℕ };
     /// Whether it can be written in a context.
     ghost fits: { Context → Bool };
-    /// What it is written by, the first message too: in a context, or as it is.
+    /// The rules by which it is written, the first message too: in a context, or as it is.
     ghost plan: { Self → Option Context → Plan Outcome };
 
-    /// Takes the context of the stream, before its first message. Answers whether the page can be written in it.
+    /// Sets the context of the stream, before its first message. Answers whether the page can be written in it.
     fn agree(&mut self, ctx: &Context) -> bool
         ensures fits { result ≡ fits ctx.now }
         ensures plan { result ≡ true → plan self.new None ≡ plan self.old (Some ctx.now) }
         ensures told { told self.new ≡ told self.old };
 
-    /// Takes the first message of the stream by a rule of its own, where there is one. Answers whether it did.
+    /// Handles the first message of the stream by a separate rule, where there is one. Answers whether it did.
     fn first(&mut self, frame: Frame<'_>) -> Result<bool, AllocError>
         requires { IsLength frame.kind (19 + length frame.body.now) }
         ensures { IfOk result (λ taken. TakesFirst taken (plan self.old None) (rules self.new) (message_in frame.entry) (told self.old) (told self.new)) };
 
-    /// Judges a whole message at a place of the stream, and collects what is written of it.
+    /// Judges a whole message at an offset of the stream, and collects what is written of it.
     fn message(&mut self, place: u64, frame: Frame<'_>) -> Result<Class, AllocError>
         requires { IsLength frame.kind (19 + length frame.body.now) }
         ensures writes { IfOk result (λ class. Writes (rules self.old) (told self.old) (told self.new) place frame.entry.len (message_in frame.entry) class) }
@@ -57,12 +57,12 @@ pub(crate) trait Page {
         ensures writes { OnOk result (told self.new ≡ told self.old ++ (rules self.old).last tally.now) }
         ensures rules { rules self.new ≡ rules self.old };
 
-    /// Collects what is written of the octets that wait.
+    /// Collects what is written of an incomplete message.
     fn rest(&mut self, waiting: &[u8]) -> Result<(), AllocError>
         ensures writes { OnOk result (told self.new ≡ told self.old ++ (rules self.old).rest waiting.now) }
         ensures rules { rules self.new ≡ rules self.old };
 
-    /// The answer, by the counts and the end, and the place behind all messages that let the stream go on.
+    /// The answer, by the counts and the end, and the offset after all messages that let the stream continue.
     fn answer(&self, tally: Tally, place: u64) -> Result<Tally, ToolFault>
         ensures value { result ≡ (rules self.now).answer tally place }
         ensures kind { IsAnswer result };
@@ -71,7 +71,7 @@ pub(crate) trait Page {
     fn told(&self) -> &[u8]
         ensures { result.now ≡ told self.now };
 
-    /// Lets go of what was collected.
+    /// Drops what was collected.
     fn clear(&mut self)
         ensures told { told self.new ≡ [] }
         ensures rules { rules self.new ≡ rules self.old }

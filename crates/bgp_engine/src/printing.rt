@@ -54,7 +54,7 @@ fn explain_within<F: FieldForm + Drop, R: Read, W: Write>(
     walk_stream(turns, hex, page, input, output)
 }
 
-// The same in the context that both OPENs agree on.
+// As `explain_within`, in the context that both OPENs agree on.
 fn explain_by_opens<F: FieldForm + Drop, R: Read, W: Write>(
     alloc: Global,
     turns: u32,
@@ -75,8 +75,8 @@ fn explain_by_opens<F: FieldForm + Drop, R: Read, W: Write>(
     open_stream(alloc, turns, theirs, hex, page, input, output)
 }
 
-/// Prints the outcome of each message of a stream in a context, in a style; where `only_faults` is set, of those alone that aren't accepted without
-/// a note (RFC 7606), and of NOTIFICATIONs. It reads as [`show`](crate::show) does.
+/// Prints the outcome of each message of a stream in a context, in a style; where `only_faults` is set, only of those
+/// that aren't accepted without a note (RFC 7606), and of NOTIFICATIONs. It reads as [`show`](crate::show) does.
 ///
 /// # Errors
 /// As `show`.
@@ -94,10 +94,10 @@ pub fn print<R: Read, W: Write>(
     print_within(alloc, u32::MAX, style, only_faults, ctx, hex, input, output)
 }
 
-/// [`print`], with a reader that is asked at most so many times.
+/// [`print`], with a reader that is called at most `turns` times.
 ///
 /// # Errors
-/// As `print`; `Read` too where the reader was asked that often and hadn't ended.
+/// As `print`; `Read` too where that limit was reached before the reader ended.
 pub fn print_within<R: Read, W: Write>(
     alloc: Global,
     turns: u32,
@@ -157,10 +157,10 @@ pub fn print_by_opens<R: Read, W: Write>(
     )
 }
 
-/// [`print_by_opens`], with a reader that is asked at most so many times.
+/// [`print_by_opens`], with a reader that is called at most `turns` times.
 ///
 /// # Errors
-/// As `print_by_opens`; `Read` too where the reader was asked that often and hadn't ended.
+/// As `print_by_opens`; `Read` too where that limit was reached before the reader ended.
 pub fn print_by_opens_within<R: Read, W: Write>(
     alloc: Global,
     turns: u32,

@@ -13,18 +13,18 @@ use arrayvec::ArrayVec;
 use std::alloc::AllocError;
 use std::io::{Read, Write};
 
-/// What a block of text came to.
+/// The result of one block of text.
 #[derive(Clone, Copy)]
 pub(crate) enum Met {
-    /// The stream goes on.
+    /// The stream continues.
     Block,
-    /// A character is bad, at this place in the text.
+    /// A character is bad, at this offset in the text.
     Bad(u64),
     /// The stream is over.
     Over,
 }
 
-// Takes the octets of a block of at most 4096 characters.
+// Processes the octets of a block of at most 4096 characters.
 fn take_block<E: Engine>(
     hex: bool,
     reader: &mut HexText,
@@ -56,7 +56,7 @@ fn take_block<E: Engine>(
     })
 }
 
-// Writes what is collected and what is written last, and gives the answer.
+// Writes the collected and the last text, and gives the answer.
 fn finish<E: Engine, W: Write>(engine: &mut E, output: &mut W) -> Result<Tally, ToolFault>
     requires { E.ready (E.state engine.old) }
     ensures { Finished (E.reports (E.state engine.old)) (E.told engine.old) (W.contents output.old) (W.contents output.new) result }
@@ -71,12 +71,12 @@ fn finish<E: Engine, W: Write>(engine: &mut E, output: &mut W) -> Result<Tally, 
 
 /// Runs an engine over a reader's text, which is its stream's octets or hexadecimal text of them.
 ///
-/// The reader is asked for at most 4096 octets at a time, and at most so many times. What a block brought is written before the
-/// reader is asked again.
+/// The reader is asked for at most 4096 octets at a time, and at most `turns` times. What a block yields is written
+/// before the next read.
 ///
 /// # Errors
-/// `Memory`, `Read` and `Write` at once, without a second try; `BadHex` where the octets before a bad character didn't end
-/// the stream; and the engine's own. What was written before a fault stands.
+/// `Memory`, `Read` and `Write` at once, without a second try; `BadHex` where the octets before a bad character didn't
+/// end the stream; and the engine's own. What was written before a fault remains.
 pub(crate) fn run<E: Engine, R: Read, W: Write>(
     turns: u32,
     hex: bool,

@@ -22,7 +22,7 @@ use bgp_update::UpdateView;
 use std::alloc::{AllocError, Global};
 use std::io::{Read, Write};
 
-/// What each message comes to, in a form.
+/// The outcome of each message, in a form.
 #[derive(Drop)]
 pub(crate) struct ShowPage<F> {
     alloc: Global,
@@ -35,7 +35,7 @@ impl<F: Form> ShowPage<F> {
     ghost use Rattle.std.specs.Prelude.{◌≡◌, []};
     ghost use Rattle.bgp_engine.specs.Below.{string_bytes};
 
-    /// Nothing so far.
+    /// An empty page.
     pub(crate) fn new(alloc: Global, ctx: Context, form: F) -> ShowPage<F>
         ensures context { result.ctx ≡ ctx }
         ensures empty { string_bytes result.text ≡ [] }
@@ -155,14 +155,14 @@ impl<F: Form> Page for ShowPage<F> {
     }
 }
 
-/// Prints the outcome of each message of a stream in a context. The stream stands as it is, or as hexadecimal text.
+/// Prints the outcome of each message of a stream in a context. The stream is raw octets, or hexadecimal text.
 ///
-/// The reader is asked for at most 4096 octets at a time, and at most 4,294,967,295 times. What a block brought is
-/// written before the reader is asked again. Behind a reset it isn't asked.
+/// The reader is asked for at most 4096 octets at a time, and at most 4,294,967,295 times. What a block yields is
+/// written before the next read. After a reset nothing is read.
 ///
 /// # Errors
-/// `Memory`, `Read` and `Write` at once, without a second try; `BadHex` where the octets before a bad character didn't end
-/// the stream. What was written before a fault stands, and no end line follows it.
+/// `Memory`, `Read` and `Write` at once, without a second try; `BadHex` where the octets before a bad character didn't
+/// end the stream. What was written before a fault remains, and no end line follows it.
 pub fn show<R: Read, W: Write>(
     alloc: Global,
     ctx: &Context,
@@ -175,10 +175,10 @@ pub fn show<R: Read, W: Write>(
     show_within(alloc, u32::MAX, ctx, hex, input, output)
 }
 
-/// [`show`], with a reader that is asked at most so many times.
+/// [`show`], with a reader that is called at most `turns` times.
 ///
 /// # Errors
-/// As `show`; `Read` too where the reader was asked that often and hadn't ended.
+/// As `show`; `Read` too where that limit was reached before the reader ended.
 pub fn show_within<R: Read, W: Write>(
     alloc: Global,
     turns: u32,

@@ -29,10 +29,10 @@ pub fn show_json<R: Read, W: Write>(
     show_json_within(alloc, u32::MAX, ctx, hex, input, output)
 }
 
-/// [`show_json`], with a reader that is asked at most so many times.
+/// [`show_json`], with a reader that is called at most `turns` times.
 ///
 /// # Errors
-/// As `show_json`; `Read` too where the reader was asked that often and hadn't ended.
+/// As `show_json`; `Read` too where that limit was reached before the reader ended.
 pub fn show_json_within<R: Read, W: Write>(
     alloc: Global,
     turns: u32,

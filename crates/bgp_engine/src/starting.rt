@@ -1,4 +1,4 @@
-//! The messages of a stream whose first one may tell the context, or be taken by a rule of its own.
+//! The messages of a stream whose first one may determine the context, or be handled by a separate rule.
 
 ghost use Rattle.std.specs.Prelude.{◌≡◌, ◌+◌, [], None, Some, length, option_map, IfOk};
 ghost use Rattle.bgp_engine.specs.Below.{IsLength, message_in};
@@ -29,7 +29,7 @@ pub(crate) enum Begun {
     Handed,
 }
 
-/// Holds the first message of a stream until it is whole, and walks over what stands behind it, or over all of them.
+/// Holds the first message of a stream until it is whole, and walks over what follows it, or over all of them.
 #[derive(Drop)]
 pub(crate) struct Starting<'a, P> {
     alloc: Global,
@@ -39,7 +39,8 @@ pub(crate) struct Starting<'a, P> {
     pub(crate) walk: Walk<P>,
 }
 
-// Takes the context of the stream, which the first message and that of the other direction tell where those were given. Answers why there is none.
+// Sets the context of the stream, where the octets of the other direction were given, by both first messages. Answers
+// why there is none.
 fn settle<P: Page>(
     alloc: Global,
     theirs: Option<&[u8]>,
@@ -61,7 +62,8 @@ fn settle<P: Page>(
     }
 }
 
-// Looks at the first message, where it is whole and its header has no fault, and takes it by a rule of its own where there is one.
+// Decides how a stream begins by its first message, which is whole and whose header has no fault, and handles that
+// message by a separate rule where there is one.
 fn begin<P: Page>(
     alloc: Global,
     theirs: Option<&[u8]>,
@@ -88,7 +90,7 @@ impl<P: Page> Walk<P> {
     ghost use Rattle.bgp_engine.specs.steps.Starting.{IsFresh, Settles, starts_of};
     ghost use Rattle.bgp_engine.specs.steps.Walking.{IsCounting, walk_of};
 
-    // Looks at the first message, where it is there.
+    // Decides how the stream begins, where its first message is whole.
     fn begin(&mut self, alloc: Global, theirs: Option<&[u8]>) -> Result<Stage, AllocError>
         requires counting { IsCounting (walk_of P.rules self.old) }
         requires fresh { IsFresh (walk_of P.rules self.old) }
@@ -124,7 +126,7 @@ impl<'a, P: Page> Starting<'a, P> {
     ghost use Rattle.bgp_engine.specs.steps.Starting.{GoesOn, IsFirst, ReadyIn, reports_in, starting_of};
     ghost use Rattle.bgp_engine.specs.steps.Walking.{IsCounting, IsReady, reports_of, room_of, walk_of};
 
-    /// At the front of a stream.
+    /// At the beginning of a stream.
     pub(crate) fn new(alloc: Global, theirs: Option<&'a [u8]>, page: P) -> Starting<'a, P>
         ensures stage { result.stage ≡ stage.First }
         ensures theirs { result.theirs ≡ theirs.entry }
@@ -140,7 +142,7 @@ impl<'a, P: Page> Starting<'a, P> {
         }
     }
 
-    // Judges what is held, and what stands behind it.
+    // Judges what is held, and what follows it.
     fn walk_on(&mut self, later: &[u8]) -> Result<bool, AllocError>
         requires unended { self.old.walk.ended ≡ None }
         requires counting { IsCounting (walk_of P.rules self.old.walk) }
@@ -156,7 +158,7 @@ impl<'a, P: Page> Starting<'a, P> {
         self.walk.take(later)
     }
 
-    // Takes octets where the first message waits.
+    // Consumes octets where the first message is incomplete.
     fn take_first(&mut self, octets: &[u8]) -> Result<bool, AllocError>
         requires stage { self.old.stage ≡ stage.First }
         requires first { IsFirst (walk_of P.rules self.old.walk) }

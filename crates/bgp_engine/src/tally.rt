@@ -6,10 +6,10 @@ ghost use Rattle.bgp_engine.specs.Prelude.{status_of};
 use crate::fault::ToolFault;
 use bgp_frame::End;
 
-/// What an engine met in its stream, and how that ended.
+/// The counts of a stream, and how it ended.
 #[derive(Clone, Copy, Debug, PartialEq, Eq)]
 pub struct Tally {
-    /// Whole messages, whatever came of them.
+    /// Whole messages, whatever their outcome.
     pub messages: u64,
     /// Messages that were accepted.
     pub took: u64,
@@ -21,9 +21,10 @@ pub struct Tally {
     pub end: End,
 }
 
-/// The status of the process: 0 where each message was accepted and none is incomplete; 1 at treat-as-withdraw, a reset, an incomplete message, bad
-/// hexadecimal text, what can't be narrowed or cleaned, no context that two OPENs agree on, or a faulty script; 3 where memory ran out; 4 where a read, a write or the set-up of a
-/// listener failed. (2 is a fault of the command line.)
+/// The status of the process: 0 where each message was accepted and none is incomplete; 1 at treat-as-withdraw, a
+/// reset, an incomplete message, bad hexadecimal text, what can't be narrowed or cleaned, no context that two OPENs
+/// agree on, or a faulty script; 3 where memory ran out; 4 where a read, a write or the set-up of a listener failed. (2
+/// is a fault of the command line.)
 pub fn status(outcome: &Result<Tally, ToolFault>) -> u8
     ensures { result ≡ status_of outcome.now }
 {

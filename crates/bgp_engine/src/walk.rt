@@ -1,4 +1,4 @@
-//! The messages of a stream that comes block by block.
+//! The messages of a stream that arrives block by block.
 
 ghost use Rattle.std.specs.Prelude.{◌≡◌, [], ◌++◌, take};
 ghost use Rattle.bgp_engine.specs.Below.{Pulls};
@@ -16,18 +16,19 @@ use bgp_frame::{End, Framer, Pull};
 use std::alloc::AllocError;
 use std::io::{Read, Write};
 
-/// Finds the messages of a stream, counts them and hands them to a page. A message that is whole in a block is judged there.
+/// Finds the messages of a stream, counts them and passes them to a page. A message that is whole in a block is judged
+/// there.
 #[derive(Drop)]
 pub(crate) struct Walk<P> {
     pub(crate) page: P,
     pub(crate) framer: Framer,
-    /// Where in the stream the octets begin that are held.
+    /// The offset in the stream of the held octets.
     place: u64,
     tally: Tally,
     pub(crate) ended: Option<End>,
 }
 
-/// The octets that are held, or those that octets begin with where none are: what a look pulled.
+/// The octets that a look pulled: the held ones, or the first of the block where none are held.
 fn pulled<'a>(framer: &'a Framer, octets: &'a [u8], taken: usize) -> &'a [u8]
     requires { Pulls framer.now octets.now taken }
     ensures { result.now ≡ framer.now ++ take taken octets.now }
@@ -50,7 +51,7 @@ impl<P: Page> Walk<P> {
     ghost use Rattle.bgp_engine.specs.steps.Walking.{Hears, IsCounting, IsJudged, IsReady, all_counts, reports_of, reset_if, walk_of};
     ghost use Rattle.bgp_engine.specs.steps.Engine.{Closes};
 
-    /// A walk at the front of a stream.
+    /// A walk at the beginning of a stream.
     pub(crate) fn new(page: P) -> Walk<P>
         ensures { result ≡ record { page = page; framer = []; place = 0; tally = no_tally; ended = None } }
     {
@@ -69,7 +70,7 @@ impl<P: Page> Walk<P> {
         }
     }
 
-    // Counts a message of so many octets.
+    // Counts a message of length `len`.
     pub(crate) fn count(&mut self, len: u16, class: Class)
         requires place { self.old.place < 2 ^ 61 }
         requires counts { all_counts self.old.tally ≤ self.old.place }
@@ -94,7 +95,7 @@ impl<P: Page> Walk<P> {
         self.place += u64::from(len);
     }
 
-    // Counts a header's fault, behind which nothing can be read.
+    // Counts a header's fault, after which nothing can be read.
     fn count_fault(&mut self)
         requires place { self.old.place < 2 ^ 61 }
         requires counts { all_counts self.old.tally ≤ self.old.place }
@@ -104,7 +105,8 @@ impl<P: Page> Walk<P> {
         self.ended = Some(End::Head);
     }
 
-    // Judges what is held, or what octets begin with where nothing is held. Answers how many of the octets it took, where there was something to judge.
+    // Judges what is held, or what octets begin with where nothing is held. Answers the number of octets consumed,
+    // where there was something to judge.
     pub(crate) fn judge(&mut self, octets: &[u8]) -> Result<Option<usize>, AllocError>
         requires unended { self.old.ended ≡ None }
         requires counting { IsCounting (walk_of P.rules self.old) }
@@ -131,7 +133,8 @@ impl<P: Page> Walk<P> {
         }
     }
 
-    // Takes octets up to the end of a message, which is judged where it stands if it is whole there. Answers how many it took.
+    // Consumes octets up to the end of a message, which is judged in place if it is whole there. Answers the number
+    // consumed.
     fn step(&mut self, octets: &[u8]) -> Result<usize, AllocError>
         requires unended { self.old.ended ≡ None }
         requires ready { IsReady (walk_of P.rules self.old) }
@@ -153,7 +156,7 @@ impl<P: Page> Walk<P> {
         }
     }
 
-    // The answer to a stream that goes no further.
+    // The answer to a stream without more octets.
     fn close(&mut self, end: End) -> Result<Tally, ToolFault>
         requires ended { self.old.ended ≡ Some end }
         requires ready { IsReady (walk_of P.rules self.old) }
@@ -164,7 +167,7 @@ impl<P: Page> Walk<P> {
         self.page.answer(tally, self.place)
     }
 
-    // The answer to a stream of which the octets that are held wait.
+    // The answer to a stream that ends with an incomplete message.
     fn close_waiting(&mut self) -> Result<Tally, ToolFault>
         requires ended { self.old.ended ≡ None }
         requires ready { IsReady (walk_of P.rules self.old) }

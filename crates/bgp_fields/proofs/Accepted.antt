@@ -1,4 +1,4 @@
--- No field of a message that is accepted without a note is unread.
+-- No field of a message that is accepted without a note is `Unread`.
 use Rattle.bgp_fields.proofs.Prelude.{◌≡◌, ℕ, ◌+◌, ◌≤◌, List, [], length, Some, None, Result, Ok, Err, refl, sym, ap, subst, ◌∙◌, arith, nil_from_length}
 use Rattle.bgp_fields.proofs.Prelude.{length-append, AreOctets, AreOctets-back, Kind, IsFrame, header, IsLength, Context, OpenFault, Version, Parameter}
 use Rattle.bgp_fields.proofs.Prelude.{UnknownParameter, Memory, Open, reading_of, Hold, Identifier, reading-spells, Note, Verdict, verdict_of, Message}

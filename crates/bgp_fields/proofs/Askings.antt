@@ -1,10 +1,10 @@
--- The first attribute that asks for a reset or a withdrawal, attribute by attribute.
+-- The first attribute that calls for a reset or a withdrawal, attribute by attribute.
 use Rattle.bgp_fields.proofs.Prelude.{◌≡◌, ℕ, ◌+◌, ◌-◌, ◌≤◌, Bool, true, false, cond, List, ◌∷◌, ◌++◌, length, Some, sym, ap, ap₂, ◌∙◌}
 use Rattle.bgp_fields.proofs.Prelude.{list_all, also, Context, judgement, PlacedTlv, Mark, repeated, marks_behind, cut_mark, is_small, both_small}
 use Rattle.bgp_fields.proofs.Prelude.{asks_for, first_asking}
 
 module _ (resets : Bool) (ctx : Context) (nlri : Bool) where
-  -- an attribute asks, behind others of these types
+  -- an attribute calls for it, after others of these types
   abbrev pub asks : (ℕ → Bool) → PlacedTlv → Bool
   asks seen p = asks_for resets (cond (seen p.tlv.kind) (repeated p.tlv.kind) (judgement ctx nlri p.tlv))
 

@@ -5,7 +5,7 @@ use Rattle.bgp_fields.proofs.Prelude.{ValuePart, no_fields, value_fields, sectio
 use Rattle.bgp_fields.proofs.Prelude.{value_plan, section_plan, message_plan}
 use Rattle.bgp_fields.proofs.Tilings.{Tiles-to, walk-tiles}
 
--- fields from a place on, up to the end, are the octets from there on
+-- fields from an offset on, up to the end, are the octets from there on
 pub joined : (octets : List ℕ) (from : ℕ) (fs : List Field) → Tiles from (length octets) fs → flat_map (octets_in octets) fs ≡ drop from octets
 joined octets from [] t = sym (drop_all from octets (omega (arith, t)))
 joined octets from (f ∷ fs) t =

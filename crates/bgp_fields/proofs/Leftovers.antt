@@ -1,4 +1,4 @@
--- What is left where no piece can be read, found piece by piece.
+-- What is left where no further piece can be read, found piece by piece.
 use Rattle.bgp_fields.proofs.Prelude.{◌≡◌, ℕ, ◌<◌, List, length, Option, Some, None, refl, sym, ap, ◌∙◌, option_map, Reads, pieces, shorter, same_rest}
 use Rattle.bgp_fields.proofs.Prelude.{all_rest}
 

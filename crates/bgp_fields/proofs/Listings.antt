@@ -8,7 +8,7 @@ module _ (T : Type 0) where
   pub listed-none : (count : ℕ) (list : List T) → listed count [] list ≡ list
   listed-none count list = ap (λ (n : ℕ). take count list ++ drop n list) (omega arith) ∙ take-append-drop count list
 
-  -- the first of some is set, and the others are listed behind it
+  -- the first is set, and the others are listed after it
   pub listed-first : (count : ℕ) (x : T) (xs list : List T) → count < length list
       → listed count (x ∷ xs) list ≡ listed (count + 1) xs (set list count x)
   listed-first count x xs list some =
@@ -29,7 +29,7 @@ module _ (T : Type 0) where
       ∙ listed-first (count + 2) z [] two (omega (arith, room, long))
       ∙ listed-none (count + 2 + 1) (set two (count + 2) z)
 
-  -- some are listed, and others behind them
+  -- some are listed, and others after them
   pub listed-then : (xs ys : List T) (count : ℕ) (list : List T) → count + length xs ≤ length list
       → listed count (xs ++ ys) list ≡ listed (count + length xs) ys (listed count xs list)
   listed-then [] ys count list room =
@@ -47,7 +47,7 @@ module _ (T : Type 0) where
       ∙ length-set list count x
 
   module _ (told : Field → T) where
-    -- of some fields these are left, and the others are listed
+    -- of all fields these are left, and the others are listed
     pub record IsListing (all left : List Field) (start count : ℕ) (places list : List T) : Type 0 where
       pub lists : listed count (map told left) list ≡ listed start (map told all) places
       pub counted : count + length left ≡ start + length all
@@ -56,7 +56,7 @@ module _ (T : Type 0) where
     pub listing : (all : List Field) (start : ℕ) (places : List T) → start + length all ≤ length places → IsListing all all start start places places
     listing all start places room = record { lists = refl; counted = refl; room = room }
 
-    -- there is a place for the next
+    -- there is an entry for the next
     pub place_left : (all left : List Field) (start count : ℕ) (places list : List T)
         → IsListing all left start count places list → 0 < length left → count < length list
     place_left all left start count places list so_far some = omega (arith, so_far.counted, so_far.room, some)
@@ -77,7 +77,7 @@ module _ (T : Type 0) where
           room = omega (arith, so_far.room, length-set list count x);
         }
 
-    -- behind one more there is room for those that follow it
+    -- after one more there is room for those that follow it
     pub room_left : (all left inner later : List Field) (f : Field) (start count : ℕ) (places list : List T) (x : T)
         → IsListing all left start count places list → left ≡ f ∷ (inner ++ later) → count + 1 + length inner ≤ length (set list count x)
     room_left all left inner later f start count places list x so_far is =
@@ -100,7 +100,7 @@ module _ (T : Type 0) where
           room = omega (arith, so_far.room, ap length behind_is, length-listed (map told fs) count list room);
         }
 
-    -- behind more there is room for those that follow them
+    -- after more there is room for those that follow them
     pub room_behind : (all left fs inner later : List Field) (start count n : ℕ) (places list behind : List T)
         → IsListing all left start count places list → left ≡ fs ++ (inner ++ later) → n ≡ count + length fs → behind ≡ listed count (map told fs) list
         → n + length inner ≤ length behind

@@ -1,4 +1,4 @@
--- Each reset has a place, within its message.
+-- Each reset has a span, within its message.
 use Rattle.bgp_fields.proofs.Prelude.{◌≡◌, ℕ, ◌+◌, ◌-◌, ◌<◌, ◌≤◌, ◌&&◌, ◌||◌, ◌==◌, nat_lt, nat_le, Bool, true, false, cond, not, List, [], ◌∷◌, ◌++◌, length}
 use Rattle.bgp_fields.proofs.Prelude.{take, drop, Option, Some, None, inl, inr, refl, sym, ap, ap₂, subst, ◌∙◌, arith, list_any, AllByRecursion, option_or}
 use Rattle.bgp_fields.proofs.Prelude.{leb-true, or_parts, or_cases, cond_both, length-take-le, option_map, true≢false, eqb-suc-zero, length-append}
@@ -18,6 +18,8 @@ use Rattle.bgp_numbers.specs.declared.TheConstants.{VERSION}
 use Rattle.bgp_frame.specs.Frame as frame
 use Rattle.bgp_fields.specs.declared.field.Span.{Span}
 use Rattle.bgp_fields.proofs.Extents.{extent-short}
+use Rattle.bgp_frame.specs.Kind.{plain}
+use Rattle.bgp_frame.specs.steps.AreTypes.{plain-are}
 
 -- ---- OPENs
 
@@ -38,7 +40,7 @@ left-short b = let s = Splits-pieces Capability IsCapability one_capability capa
 parameters-short : (b : List ℕ) → length (pieces one_parameter b).1 ≤ length b
 parameters-short b = let s = Splits-pieces (List Capability) IsParameter one_parameter parameter-reads b in omega (arith, ap length s.whole, length-append s.row (pieces one_parameter b).1)
 
--- a whole parameter of capabilities that can't be read has one that can't
+-- a complete parameter of capabilities that can't be read contains a capability that can't
 bad-capability : (code n : ℕ) (value : List ℕ) → one_parameter (code ∷ n ∷ value) ≡ None → (code == CAPABILITIES) ≡ true → nat_le n (length value) ≡ true
     → 0 < length (pieces one_capability (take n value)).1
 bad-capability code n value none is room =
@@ -80,7 +82,7 @@ rest-none at [] e = refl
 rest-none at (kind ∷ []) e = absurd cc
 rest-none at (kind ∷ n ∷ value) e = absurd (rest_some (nat_lt (length value) n) (not (kind == CAPABILITIES)) e)
 
--- a place that is there stands in front
+-- a span that is found comes before later ones
 or-placed : (N : ℕ) (p later : Option Span) → HasPlace N p → HasPlace N (option_or p later)
 or-placed N (Some s) later placed = placed
 or-placed N None later placed = absurd placed
@@ -157,7 +159,7 @@ module _ (ctx : Context) (nlri : Bool) where
       (row-in (length b) 0 none_of_them (tlvs_of b).0 s.row s.spelled (omega (arith, long)))
       (cut-in (length b) (length b - length rest) rest (omega (arith, long)))
 
--- the first that asks is one of them
+-- the first that calls for it is one of them
 some-at : (a b : ℕ) → (let one : Option ℕ = Some a in one ≡ Some b) → a ≡ b
 some-at a b e = cc
 
@@ -217,7 +219,7 @@ asking-placed resets p ms N le all asks =
 
 -- ---- prefixes
 
--- what the rest of a field asks for
+-- the reset for the rest of a field
 abbrev run_reset : List ℕ → Option Notification
 run_reset rest = cond (length rest == 0) None (Some bad_network)
 
@@ -240,7 +242,7 @@ run-none at b (x ∷ rest) is e = absurd (let some : reset_of_run b ≡ Some bad
 
 -- ---- the body
 
--- nothing is missing of a message that announces nothing
+-- nothing is missing in a message that announces nothing
 none-missing : (reaches nlri : Bool) (types : ℕ → Bool) → reaches ≡ false → nlri ≡ false → is_missing (missing_in reaches nlri types) ≡ false
 none-missing reaches nlri types r n = rw (r, n) refl
 
@@ -254,7 +256,7 @@ module _ (ctx : Context) (p : Parts) (N : ℕ) (le : 23 + (length p.withdrawn + 
   asks-placed : (resets : Bool) → Asks resets marks → HasPlace N (asking_place resets p marks)
   asks-placed resets asks = asking-placed resets p marks N (omega (arith, le)) all-in asks
 
-  -- an attribute that asks for a reset, a bad prefix of either field, or an attribute that asks for a withdrawal
+  -- an attribute that calls for a reset, a bad prefix of either field, or an attribute that calls for a withdrawal
   parts-by : (a w r : Option Notification) → first_reset marks ≡ a → reset_of_run p.withdrawn ≡ w → reset_of_run p.nlri ≡ r
       → (a ≡ None → w ≡ None → r ≡ None → Asks false marks) → HasPlace N (parts_place p marks)
   parts-by (Some n) w r ea ew er asks =
@@ -288,7 +290,7 @@ abbrev reset : Notification → Verdict
 reset n = Verdict.Reset n
 
 module _ (ctx : Context) (body : List ℕ) (octets : AreOctets body) (n : Notification) where
-  -- without a reset by itself, the message announces nothing and would be withdrawn
+  -- where no part causes the reset, the message announces nothing and would be treated as a withdrawal
   asks-by : (p : Parts) (o : Option Notification) (withdrawn reachable : Bool) → o ≡ None → is_withdrawn p (marks_of ctx p) ≡ withdrawn → is_reachable p (marks_of ctx p) ≡ reachable
       → unless_reset o (cond withdrawn (cond reachable (Verdict.Withdraw (routes_of p (marks_of ctx p)) (notes_of p (marks_of ctx p))) (Verdict.Reset malformed))
       (Verdict.Take (update_of p (marks_of ctx p)) (notes_of p (marks_of ctx p)))) ≡ reset n → Asks false (marks_of ctx p)
@@ -352,7 +354,7 @@ pub reset-placed : (ctx : Context) (m : frame.Message) (octets : List ℕ) (n : 
 reset-placed ctx m octets n all is e =
     let head = header m.kind (19 + length m.body) in
     let body : AreOctets m.body = AreOctets-back head m.body (subst AreOctets is.octets all) in
-    let long = length-IsFrame m octets is in
+    let long = length-IsFrame plain plain-are m octets is in
     let resets : is_reset (out_of ctx m) ≡ true = ap is_reset e in
     subst (λ (k : ℕ). HasPlace k (reset_place ctx m)) (sym long)
     (subst (λ (t : Bool). HasPlace (19 + length m.body) (cond t (body_place ctx m.kind m.body) None)) (sym resets)

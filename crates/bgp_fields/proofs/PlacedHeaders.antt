@@ -1,7 +1,7 @@
--- Each fault of a header has a place.
+-- Each fault of a header has a span.
 use Rattle.bgp_fields.proofs.Prelude.{◌≡◌, ℕ, zero, suc, ◌+◌, ◌<◌, ◌≤◌, ◌||◌, ◌&&◌, ◌==◌, nat_eq, nat_lt, Bool, true, false, cond, List, [], ◌∷◌, length}
 use Rattle.bgp_fields.proofs.Prelude.{take, replicate, Option, Some, None, Err, refl, sym, ap, subst, ◌∙◌, arith, true≢false, eqb-true, Kind, HeadFault}
-use Rattle.bgp_fields.proofs.Prelude.{has_marker, length_field, type_field, head_for, head_of, kind_of, is_length, first_other, header_place, HasPlace}
+use Rattle.bgp_fields.proofs.Prelude.{has_marker, length_field, type_field, head_for, head_of, head_of_in, kind_of, is_length, first_other, header_place, HasPlace}
 use Rattle.std.specs.Cmp.Lexicographic.{pointwise}
 
 step-by : (k at x : ℕ) (b : List ℕ) (t : Bool) → (x == 255) ≡ t → (nat_eq 255 x && pointwise nat_eq (replicate k 255) (take k b)) ≡ false
@@ -19,7 +19,7 @@ other-within zero at b le e = absurd (true≢false e)
 other-within (suc k) at [] le e = absurd (omega (arith, le))
 other-within (suc k) at (x ∷ b) le e = step-by k at x b (x == 255) refl e (λ rest. other-within k (at + 1) b (omega (arith, le)) rest)
 
--- a Marker is at fault where it isn't one
+-- a Marker has a fault where one of its octets isn't 255
 fits-not : (k : Kind) (code n : ℕ) (t : Bool) → is_length k n ≡ t → head_for (Some k) code n ≡ Err HeadFault.Marker → ⊥
 fits-not k code n true is e = absurd (let no = rw is at e in cc)
 fits-not k code n false is e = absurd (let no = rw is at e in cc)
@@ -33,7 +33,7 @@ length-not true o code n e = absurd cc
 length-not false o code n e = kind-not o code n e
 
 marker-by : (h : List ℕ) (t : Bool) → has_marker h ≡ t → head_of h ≡ Err HeadFault.Marker → t ≡ false
-unfolding head_of
+unfolding head_of_in
 marker-by h false is e = refl
 marker-by h true is e =
     absurd (length-not (nat_lt (length_field h) 19 || nat_lt 4096 (length_field h)) (kind_of (type_field h)) (type_field h) (length_field h) (rw is at e))

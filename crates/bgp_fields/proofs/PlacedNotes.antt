@@ -1,4 +1,4 @@
--- Each note on an UPDATE has a place, unless it says that an attribute is missing.
+-- Each note on an UPDATE has a span, unless it says that an attribute is missing.
 use Rattle.bgp_fields.proofs.Prelude.{◌≡◌, ℕ, ◌+◌, ◌-◌, ◌<◌, ◌≤◌, Bool, true, false, List, [], ◌∷◌, ◌++◌, length, Option, Some, refl, sym, ap, subst, ◌∙◌}
 use Rattle.bgp_fields.proofs.Prelude.{arith, flat_map, le-leb, flat_map-cons, true≢false, lt-ltb, ORIGIN, AS_PATH, NEXT_HOP, AreOctets, AreOctets-back, Kind}
 use Rattle.bgp_fields.proofs.Prelude.{IsFrame, header, length-IsFrame, Context, reading_of, Judged, Why, Note, Routes, Update, Verdict, Mark, marks_of}
@@ -9,6 +9,8 @@ use Rattle.bgp_frame.specs.Frame as frame
 use Rattle.bgp_update.specs.declared.missing.Missing.{Missing}
 use Rattle.bgp_fields.proofs.Placed.{AllIn, field-in, attribute-placed}
 use Rattle.bgp_fields.proofs.Routed.{open-not, open-gone}
+use Rattle.bgp_frame.specs.Kind.{plain}
+use Rattle.bgp_frame.specs.steps.AreTypes.{plain-are}
 
 abbrev Placed : ℕ → List ℕ → Note → Type 0
 Placed n body note = says_missing note.why ≡ false → HasPlace n (note_place body note)
@@ -99,11 +101,11 @@ module _ (ctx : Context) where
 pub taken-notes : (ctx : Context) (m : frame.Message) (octets : List ℕ) (u : Update) (notes : List Note) → AreOctets octets → IsFrame m octets
     → out_of ctx m ≡ Outcome.Took (Message.Update u) notes → ArePlaced (length octets) m.body notes
 taken-notes ctx m octets u notes all is e =
-    subst (λ (k : ℕ). ArePlaced k m.body notes) (sym (length-IsFrame m octets is))
+    subst (λ (k : ℕ). ArePlaced k m.body notes) (sym (length-IsFrame plain plain-are m octets is))
     (taken-kind ctx m.kind m.body u notes (AreOctets-back (header m.kind (19 + length m.body)) m.body (subst AreOctets is.octets all)) e)
 
 pub withdrawn-notes : (ctx : Context) (m : frame.Message) (octets : List ℕ) (routes : Routes) (notes : List Note) → AreOctets octets → IsFrame m octets
     → out_of ctx m ≡ Outcome.Withdraw routes notes → ArePlaced (length octets) m.body notes
 withdrawn-notes ctx m octets routes notes all is e =
-    subst (λ (k : ℕ). ArePlaced k m.body notes) (sym (length-IsFrame m octets is))
+    subst (λ (k : ℕ). ArePlaced k m.body notes) (sym (length-IsFrame plain plain-are m octets is))
     (gone-kind ctx m.kind m.body routes notes (AreOctets-back (header m.kind (19 + length m.body)) m.body (subst AreOctets is.octets all)) e)

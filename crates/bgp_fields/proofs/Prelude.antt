@@ -1,4 +1,4 @@
--- The names of std, of the crates below and of this crate that its proofs cite, passed on from one place. Declares nothing.
+-- Re-exports the names of std, of the crates below and of this crate that its proofs cite. Declares nothing.
 pub use Rattle.bgp_wire.proofs.Std.{AllByRecursion, Bool, Err, List, None, Ok, Option, Result, Some, [], and_parts, ap, append_assoc, ap₂, arith, cond, cond_both, drop, drop-drop, drop-set-lt, drop-take, drop_all, drop_at, eq-eqb, eqb, eqb-true, false, false_from_ne_true, flat_map, flat_map-append, flat_map-cons, from_be_bytes-to_be_bytes_2, inl, inr, le-leb, le-ltb, leb-true, length, length-append, length-drop, length-map, length-set, length-take-le, list_all, list_any, ltb-false, ltb-true, map, map-append, nat_eq, nat_le, nat_lt, nil_from_length, not, not-false, not-true, option_map, option_or, or_cases, or_left, or_parts, or_right, refl, replicate, set, subst, suc, sym, take, take-append-drop, take-take, take_at, take_more_set, to_be_bytes, true, true≢false, w16, zero, ℕ, ◌&&◌, ◌*◌, ◌++◌, ◌+◌, ◌-◌, ◌<◌, ◌==◌, ◌||◌, ◌∙◌, ◌∷◌, ◌≡◌, ◌≤◌}
 pub use Rattle.std.proofs.Math.Dec.{eqb-suc-zero}
 pub use Rattle.std.proofs.lemmas.Bool.{lt-ltb}
@@ -14,13 +14,13 @@ pub use Rattle.bgp_wire.proofs.Pieces.{Splits-pieces, pieces-none, pieces-some}
 pub use Rattle.bgp_wire.proofs.Walks.{all_rest, nothing_at, same_rest, shorter}
 pub use Rattle.bgp_prefix.specs.Prelude.{IsPrefix, PrefixValue, octets_for, one_prefix, run_of}
 pub use Rattle.bgp_prefix.proofs.PrefixLemmas.{IsPrefix-reads}
-pub use Rattle.bgp_frame.specs.Prelude.{IsFrame, IsLength, Waits, code_of, has_marker, head_for, header, is_length, kind_of, length_field, marker, message_in, type_field, wanted}
-unfoldable pub use Rattle.bgp_frame.specs.Prelude.{head_of}
+pub use Rattle.bgp_frame.specs.Prelude.{IsFrame, IsLength, Waits, code_of, has_marker, head_for, head_of, header, is_length, kind_of, length_field, marker, message_in, type_field, wanted}
+unfoldable pub use Rattle.bgp_frame.specs.Prelude.{head_of_in}
 pub use Rattle.bgp_frame.specs.declared.fault.HeadFault.{HeadFault}
 pub use Rattle.bgp_frame.specs.declared.kind.Kind.{Kind}
 pub use Rattle.bgp_frame.specs.declared.notification.Notification.{Notification}
 pub use Rattle.bgp_frame.proofs.FrameLemmas.{IsFrame-wanted, head_at, head_of-IsFrame, head_of-append, length-IsFrame, wanted-append, wanted_by_head}
-pub use Rattle.bgp_frame.proofs.HeadLemmas.{kind_of-code_of}
+pub use Rattle.bgp_frame.specs.steps.AreTypes.{kind_of-code_of}
 pub use Rattle.bgp_open.specs.Prelude.{IsCapability, IsOpen, IsParameter, as4_of, capability_of, first_fault, hold_of, id_of, is_short_hold, is_zero_id, length_of, multi_of, one_capability, one_parameter, open_of, or_fault, parameters_of, reading_of, rest_fault, version_of}
 unfoldable pub use Rattle.bgp_open.specs.Prelude.{open_fault}
 pub use Rattle.bgp_open.specs.declared.capability.Capability.{Capability}

@@ -34,7 +34,7 @@ module _ (I S : Type 0) (stuck : S) (plan : S → List ℕ → Plan I S) (inside
       )
 
 module _ (ctx : Context) where
-  -- no field of these octets is unread, wherever they stand
+  -- no field of these octets is `Unread`, at whatever offset
   abbrev pub ValueRead : ValuePart → List ℕ → Type 0
   ValueRead part b = (at : ℕ) (group : Option Group) → AllRead (value_fields ctx part at group b)
 
@@ -85,7 +85,7 @@ module _ (ctx : Context) where
       (section-none nothing_in_section)
       (subst (MessageRead next) (sym (plan_at n (front ++ back) ∙ drop_at front back n long)) later)
 
-  -- ---- a length, what is behind it, and what follows
+  -- ---- a length, the octets inside, and what follows
 
   inside_at : (front inside back : List ℕ) (n k : ℕ) → length front ≡ n → length inside ≡ k → take k (drop n (front ++ (inside ++ back))) ≡ inside
   inside_at front inside back n k f i = ap (take k) (drop_at front (inside ++ back) n f) ∙ take_at inside back k i

@@ -11,7 +11,7 @@ use Rattle.bgp_fields.proofs.ReadableSections.{AreKept, withdrawn-read, attribut
 use Rattle.bgp_fields.proofs.ReadableValues.{prefix-long}
 use Rattle.bgp_fields.proofs.Verdicts.{IsKept, all-kept}
 
--- ---- attributes of which each is kept
+-- ---- attributes that are all kept
 
 cut-not : (b : Bool) (n : _) (w : _) (a : Attr) → cond b (Judged.Reset n) (Judged.Withdraw w) ≡ Judged.Keep a → ⊥
 cut-not true n w a e = absurd cc
@@ -118,7 +118,7 @@ module _ (ctx : Context) where
       message-front ctx MessagePart.ErrorCode (c ∷ []) (s ∷ b) FieldKind.ErrorCode 1 MessagePart.ErrorSubcode refl refl (omega arith) refl
       (message-front ctx MessagePart.ErrorSubcode (s ∷ []) b FieldKind.ErrorSubcode 1 (MessagePart.All FieldKind.Data) refl refl (omega arith) refl (data-read b))
 
-  -- ---- the header in front
+  -- ---- the header
 
   pub header-read : (k : Kind) (n : ℕ) (body : List ℕ) → MessageRead ctx (body_part (Some k)) body → MessageRead ctx MessagePart.Marker (header k n ++ body)
   header-read k n body later =

@@ -34,7 +34,7 @@ module _ (ctx : Context) where
       (value-front ctx ValuePart.LinkLocal addr (reserved ∷ row) None FieldKind.LinkLocal 16 (ValuePart.Reserved true) refl linked.wide (omega arith) refl
       (reserved6-read row reserved routes prefixes))))
 
-  -- the family in front
+  -- the family at the front
   family-read : (reach : Bool) (afi : ℕ) (high low : ℕ) (back : List ℕ) (next : ValuePart)
       → value_plan ctx (ValuePart.Afi reach) (high ∷ low ∷ (UNICAST ∷ back)) ≡ one FieldKind.Afi 2 (ValuePart.Safi reach afi)
       → behind_family ctx reach afi UNICAST ≡ next → ValueRead ctx next back → ValueRead ctx (ValuePart.Afi reach) (high ∷ low ∷ (UNICAST ∷ back))
@@ -66,7 +66,7 @@ module _ (ctx : Context) where
       refl refl (omega arith) refl
       (hop6-read hop link is.row is.reserved routes long linked is.prefixes)))
 
-  -- by the family that stands in front
+  -- by the family at the front
   reach-by : (v : List ℕ) (unicast ip4 ip6 : Bool) → (safi_of v == UNICAST) ≡ unicast → (afi_of v == IPV4) ≡ ip4 → (afi_of v == IPV6) ≡ ip6
       → is_in_use ctx (family_of v) ≡ true → IsReachValue (mp_reach_of v) v → ValueRead ctx (ValuePart.Afi true) v
   reach-by v false ip4 ip6 s a b used is = absurd (let no : false ≡ true = rw s at used in cc)

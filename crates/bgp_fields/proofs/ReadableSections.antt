@@ -10,7 +10,7 @@ use Rattle.bgp_fields.proofs.ReadableValues.{prefix-long}
 use Rattle.bgp_fields.proofs.ReadableAttributes.{kept-read}
 use Rattle.bgp_fields.proofs.Steps.{width-some}
 
--- the length of an attribute, of as many octets as its flags say
+-- the length field of an attribute, of the width given by its flags
 pub attribute-long : (extended : Bool) (size back : List ℕ) → length size ≡ cond extended 2 1
     → cond extended (two_of (size ++ back)) (first_of (size ++ back)) ≡ number_of_length size
 attribute-long true [] back e = absurd (omega (arith, e))

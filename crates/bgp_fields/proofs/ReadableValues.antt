@@ -6,7 +6,7 @@ use Rattle.bgp_fields.proofs.Prelude.{numbers_behind, behind_number}
 use Rattle.bgp_attr.proofs.NumberRows.{length-number_row}
 use Rattle.bgp_fields.proofs.Readable.{ValueRead, value-none, value-front}
 
--- the octets of a prefix
+-- the length of a prefix's encoding
 pub prefix-long : (width : ℕ) (p : PrefixValue) (b : List ℕ) → IsPrefix width p b → length b ≡ prefix_len width p.len
 prefix-long width p b is =
     ap length is.octets ∙ ap suc is.least

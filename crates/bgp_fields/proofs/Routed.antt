@@ -23,7 +23,7 @@ module _ (ctx : Context) where
   abbrev whole : List ℕ → List ℕ
   whole body = header Kind.Update (19 + length body) ++ body
 
-  -- the octets of these parts show the routes of these parts
+  -- the octets of these parts show the routes of the parts
   parts-shown : (body : List ℕ) (p : Parts) → AreOctets body → parts_of body ≡ Some p → reset_of p (marks_of ctx p) ≡ None
       → ShowsRoutes (whole body) (fields_of ctx (whole body)) (update_of p (marks_of ctx p))
   parts-shown body p octets found goes =

@@ -7,7 +7,7 @@ use Rattle.std.specs.Prelude.{is_some}
 use Rattle.bgp_fields.proofs.Walks.{walk-none, walk-told}
 use Rattle.bgp_fields.proofs.Readable.{fit-whole}
 
--- octets that stand at a place of a message
+-- octets at an offset of a message
 abbrev pub At : List ℕ → ℕ → List ℕ → Type 0
 At m at b = take (length b) (drop at m) ≡ b
 
@@ -36,7 +36,7 @@ pub none-append : (fs gs : List Field) → NonePrefix fs → NonePrefix gs → N
 none-append [] gs f g = g
 none-append (x ∷ fs) gs f g = (f.0, none-append fs gs f.1 g)
 
--- what is chosen of a list
+-- a list if it is chosen, else nothing
 abbrev pub pick : Bool → List PrefixValue → List PrefixValue
 pick b ps = cond b ps []
 
@@ -66,7 +66,7 @@ module _ (chosen : FieldKind → Bool) where
       ∙ ap₂ (λ (a b : List PrefixValue). pick (chosen f.kind) a ++ b) (in-none (prefix_width f.kind) (octets_in m f) none.0) (none-shown m fs none.1)
       ∙ ap (λ (a : List PrefixValue). a ++ []) (pick-nil (chosen f.kind))
 
-  -- the octets show these prefixes, wherever they stand
+  -- the octets show these prefixes, at whatever offset
   abbrev pub Shows : Telling → List ℕ → List PrefixValue → Type 0
   Shows tell b ps = (m : List ℕ) (at : ℕ) (group : Option Group) → At m at b → prefixes_shown chosen m (tell at group b) ≡ ps
 
@@ -103,7 +103,7 @@ module _ (chosen : FieldKind → Bool) where
         ∙ ap₂ (λ (x y : List PrefixValue). x ++ y) (within m (at + p.len) g mid_at) (behind m (at + p.len + p.inner_len) g back_at))
         ∙ ap (λ (x : List PrefixValue). x ++ (inner ++ later)) one
 
-    -- the same where the octets are as many
+    -- the same where the lengths are equal
     pub shows-step : (part : S) (front mid back : List ℕ) (p : Plan I S) (first inner later : List PrefixValue)
         → plan part (front ++ (mid ++ back)) ≡ p → length front ≡ p.len → 0 < p.len → length mid ≡ p.inner_len
         → pick (chosen p.kind) (prefix_in (prefix_width p.kind) front) ≡ first
@@ -115,7 +115,7 @@ module _ (chosen : FieldKind → Bool) where
         (ap (λ (q : Plan I S). fit stuck q n) is ∙ fit-whole I S stuck p n some (omega (arith, length-append front (mid ++ back), length-append mid back, long, held)))
         long some held one within behind
 
-    -- the same of a field that is no prefix, and of which nothing is inside
+    -- the same for a field that is no prefix and has no octets inside
     pub shows-leaf : (part : S) (front back : List ℕ) (p : Plan I S) (later : List PrefixValue)
         → plan part (front ++ back) ≡ p → length front ≡ p.len → 0 < p.len → 0 ≡ p.inner_len → is_prefix p.kind ≡ false
         → ((at : ℕ) (group : Option Group) → inside p.inner at group [] ≡ []) → Shows (walk stuck plan inside p.next) back later

@@ -11,7 +11,7 @@ use Rattle.bgp_attr.specs.Prelude.{AttributeType}
 use Rattle.bgp_numbers.specs.declared.error.TheConstants.{UPDATE_MESSAGE, OPTIONAL_ATTRIBUTE}
 use Rattle.bgp_fields.proofs.ShowingValues.{is_plain, ValueShows, plain-shows, reach_shown, unreach_shown, reach-shows, unreach-shows, unused-shows}
 
--- it is discarded, and the session goes on
+-- it is discarded, and the session continues
 abbrev IsDropped : Judged → Type 0
 IsDropped (Judged.Discard w) = Unit {0}
 IsDropped (Judged.Withdraw w) = Unit {0}
@@ -37,7 +37,7 @@ unreach-dropped false false true d n w x is = (refl, refl)
 unreach-dropped false false false true n w x is = absurd is
 unreach-dropped false false false false n w x is = absurd is
 
--- what a reset of these attributes says
+-- the NOTIFICATION of a reset by one of the two types that carry routes
 abbrev says : TlvValue → Notification
 says t = record { code = UPDATE_MESSAGE; subcode = OPTIONAL_ATTRIBUTE; info = record { items = t.whole } }
 
@@ -71,7 +71,7 @@ module _ (ctx : Context) (chosen : FieldKind → Bool) where
   unreach_opt None = []
   unreach_opt (Some r) = unreach_shown ctx chosen r
 
-  -- what is shown of an attribute that is kept
+  -- what a kept attribute shows
   abbrev pub attr_shown : Attr → List PrefixValue
   attr_shown a = reach_opt (as_mp_reach a) ++ unreach_opt (as_mp_unreach a)
 
@@ -126,7 +126,7 @@ module _ (ctx : Context) (chosen : FieldKind → Bool) where
     repeated-shows true e goes = absurd (let is : Some malformed ≡ None = rw e at goes in cc)
     repeated-shows false e goes = rw e (plain-shows ctx chosen (attribute_value ctx t.kind) t.value (plain-kind ctx t.kind e))
 
-    -- an attribute, behind others of which its type was seen or not
+    -- an attribute, after others of which its type was seen or not
     pub judged-shows : (seen : Bool) → AreOctets t.value → reset_by (cond seen (repeated t.kind) (judgement ctx nlri t)) ≡ None
         → Here (judged_shown (cond seen (repeated t.kind) (judgement ctx nlri t)))
     judged-shows true octets goes = repeated-shows (carries_routes t.kind) refl goes

@@ -105,7 +105,7 @@ module _ (ctx : Context) (chosen : FieldKind → Bool) where
       (section-leaf (SectionPart.All FieldKind.Unread) (x ∷ b) [] (leaf nothing_inside FieldKind.Unread (length (x ∷ b)) (SectionPart.All FieldKind.Unread)) []
       (ap (λ (c : List ℕ). leaf nothing_inside FieldKind.Unread (length c) (SectionPart.All FieldKind.Unread)) (append-nil (x ∷ b))) refl (omega arith) refl refl (section-nothing (SectionPart.All FieldKind.Unread)))
 
-  -- a length with which an attribute goes past the end
+  -- a length by which an attribute goes past the end
   length-cut : (flags kind : ℕ) (b : List ℕ) → (length_width flags + attribute_len flags b ≤ length b → ⊥) → (t : Bool) → nat_le (length_width flags) (length b) ≡ t
       → SectionShows (SectionPart.AttributeLength flags kind) b []
   length-cut flags kind b past true e =

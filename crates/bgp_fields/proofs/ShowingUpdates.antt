@@ -1,4 +1,4 @@
--- The prefix fields of an UPDATE that isn't answered by a reset are its routes.
+-- The prefix fields of an UPDATE without a reset are its routes.
 use Rattle.bgp_fields.proofs.Prelude.{◌≡◌, ℕ, ◌-◌, ◌<◌, Bool, false, List, [], ◌∷◌, ◌++◌, length, take, None, refl, sym, ap, ap₂, subst, ◌∙◌, arith, w16}
 use Rattle.bgp_fields.proofs.Prelude.{to_be_bytes, flat_map, option_or, take_at, flat_map-cons, flat_map-append, from_be_bytes-to_be_bytes_2, append-nil}
 use Rattle.bgp_fields.proofs.Prelude.{Kind, header, marker, code_of, AreOctets, none_of_them, AreOctets-front, AreOctets-back, Splits-pieces, nothing_at}
@@ -28,7 +28,7 @@ module _ (ctx : Context) (chosen : FieldKind → Bool) where
   mark-kept (Judged.Withdraw w) = refl
   mark-kept (Judged.Reset n) = refl
 
-  -- what is shown is that of what is kept
+  -- what is shown is what the kept attributes show
   marks-kept : (ms : List Mark) → marks_shown ctx chosen ms ≡ flat_map (attr_shown ctx chosen) (kept_of ms)
   marks-kept [] = refl
   marks-kept (m ∷ ms) =
@@ -52,7 +52,7 @@ module _ (ctx : Context) (chosen : FieldKind → Bool) where
       (attributes-show ctx chosen nlri none_of_them 0 ts s.row rest s.spelled (AreOctets-front s.row rest (subst AreOctets s.whole octets))
       (nothing_at TlvValue IsTlv one_tlv IsTlv-reads b) (resets-front ms (cut_mark (length b - length rest) rest) goes)))
 
-  -- ---- the body, and the header in front
+  -- ---- the body, and the header
 
   message-leaf : (part : MessagePart) (front back : List ℕ) (kind : FieldKind) (n : ℕ) (next : MessagePart) (later : List PrefixValue)
       → message_plan part (front ++ back) ≡ alone kind n next → length front ≡ n → 0 < n → is_prefix kind ≡ false

@@ -10,7 +10,7 @@ use Rattle.bgp_fields.proofs.ReadableRoutes.{used4, used6}
 use Rattle.bgp_fields.proofs.ReadableValues.{prefix-long}
 use Rattle.bgp_fields.proofs.Showing.{is_prefix, NonePrefix, none-append, pick, pick-nil, pick-append, prefix-in, none-shown, Shows, nothing-shows, shows-step, shows-leaf}
 
--- ---- parts in which no prefix stands
+-- ---- parts without a prefix
 
 abbrev pub is_plain : ValuePart → Bool
 is_plain (ValuePart.One kind n) = not (is_prefix kind)
@@ -34,7 +34,7 @@ is_plain ValuePart.CapabilityReserved = true
 is_plain ValuePart.CapabilitySafi = true
 is_plain (ValuePart.All kind) = not (is_prefix kind)
 
--- a plan of no prefix, and then of none
+-- a plan of no prefix, and none after it
 abbrev Plain : Plan (Unit {0}) ValuePart → Type 0
 Plain p = (is_prefix p.kind ≡ false) × (is_plain p.next ≡ true)
 
@@ -168,7 +168,7 @@ module _ (ctx : Context) (chosen : FieldKind → Bool) where
       leaf (ValuePart.Afi reach) (high ∷ low ∷ []) (safi ∷ back) FieldKind.Afi 2 (ValuePart.Safi reach afi) ps is refl (omega arith) refl
       (leaf (ValuePart.Safi reach afi) (safi ∷ []) back FieldKind.Safi 1 next ps (ap (λ (p : ValuePart). one FieldKind.Safi 1 p) used) refl (omega arith) refl later)
 
-  -- what an attribute that is kept shows
+  -- what a kept attribute shows
   abbrev pub reach_shown : MpReach → List PrefixValue
   reach_shown (MpReach.Ip4 hop routes) = pick (chosen FieldKind.ReachPrefix4) routes
   reach_shown (MpReach.Ip6 hop link routes) = pick (chosen FieldKind.ReachPrefix6) routes
@@ -208,7 +208,7 @@ module _ (ctx : Context) (chosen : FieldKind → Bool) where
       (family-shows false IPV6 0 2 UNICAST is.row (ValuePart.Prefixes FieldKind.UnreachPrefix6 true) _ refl (used6 ctx false used)
       (prefixes-show FieldKind.UnreachPrefix6 true refl routes is.row is.prefixes))
 
-  -- by the family that stands in front
+  -- by the family at the front
   reach-by : (v : List ℕ) (unicast ip4 ip6 : Bool) → (safi_of v == UNICAST) ≡ unicast → (afi_of v == IPV4) ≡ ip4 → (afi_of v == IPV6) ≡ ip6
       → is_in_use ctx (family_of v) ≡ true → IsReachValue (mp_reach_of v) v → ValueShows (ValuePart.Afi true) v (reach_shown (mp_reach_of v))
   reach-by v false ip4 ip6 s a b used is = absurd (let no : false ≡ true = rw s at used in cc)

@@ -1,4 +1,4 @@
--- Routes by family and place.
+-- Routes by family and by the field that has them.
 use Rattle.bgp_fields.proofs.Prelude.{◌≡◌, ℕ, Bool, true, false, not, cond, eqb, List, [], ◌∷◌, ◌++◌, map, Option, Some, None, refl, sym, ap, ap₂, subst, ◌∙◌}
 use Rattle.bgp_fields.proofs.Prelude.{flat_map, and_parts, or_left, or_right, flat_map-cons, true≢false, eqb-true, eq-eqb, append-nil, MP_REACH_NLRI}
 use Rattle.bgp_fields.proofs.Prelude.{MP_UNREACH_NLRI, Kind, header, ◌>>=◌, AreOctets, also, none_of_them, AreOctets-front, Splits-pieces, Context}
@@ -55,13 +55,13 @@ unreach-alone : (x : Attr) → (first_known (x ∷ []) MP_UNREACH_NLRI >>= as_mp
 unreach-alone (Attr.MpUnreach r) = refl
 unreach-alone _ = refl
 
--- ---- what is shown of attributes that are kept, no type twice
+-- ---- what kept attributes of distinct types show
 
 module _ (ctx : Context) (xs : List Attr) (seen : ℕ → Bool) (fresh : NoneTwice seen (map type_of xs)) where
   abbrev all : (FieldKind → Bool) → List PrefixValue
   all chosen = flat_map (attr_shown ctx chosen) xs
 
-  -- where nothing is shown of MP_UNREACH_NLRI
+  -- where MP_UNREACH_NLRI shows nothing
   reach-all : (chosen : FieldKind → Bool) (g : Option MpReach → List PrefixValue) → g None ≡ [] → ((o : Option MpReach) → reach_opt ctx chosen o ≡ g o)
       → ((o : Option MpUnreach) → unreach_opt ctx chosen o ≡ []) → all chosen ≡ g (attrs_of xs).mp_reach
   unfolding attrs_from

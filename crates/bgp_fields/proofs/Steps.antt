@@ -20,7 +20,7 @@ value-next ctx part at group g b rest p some e group_is rest_is =
     walk-split (Unit {0}) ValuePart (ValuePart.All Unread) (value_plan ctx) no_fields part at group g b [] rest (value_planned p) some e group_is refl rest_is
     ∙ ap (λ (n : ℕ). record { at = at; len = p.len; kind = p.kind; group = g } ∷ value_fields ctx p.next n g rest) (omega arith)
 
--- one of a row
+-- a field of a row
 pub row-next : (ctx : Context) (part : ValuePart) (kind : FieldKind) (width at : ℕ) (group : Option Group) (b rest : List ℕ)
     → part ≡ ValuePart.Row kind width → 0 < width → width ≤ length b → rest ≡ drop width b
     → value_fields ctx part at group b ≡ record { at = at; len = width; kind = kind; group = group } ∷ value_fields ctx part (at + width) group rest
@@ -30,7 +30,7 @@ row-next ctx part kind width at group b rest row some fits rest_is =
     (value-next ctx (ValuePart.Row kind width) at group group b rest p (omega (arith, some, fits))
     (sym (fit-same (Unit {0}) ValuePart (ValuePart.All Unread) (value_planned p) (length b) (some, omega (arith, fits)))) refl rest_is)
 
--- and what stands behind the value
+-- and what follows the value
 pub value-step : (ctx : Context) (part : ValuePart) (at : ℕ) (group : Option Group) (b : List ℕ) (later : ℕ → List Field)
     (p : ValuePlan) (g : Option Group) (rest : List ℕ)
     → 0 < length b → value_planned p ≡ fit (ValuePart.All Unread) (value_plan ctx part b) (length b) → g ≡ group_from at p.begins group → rest ≡ drop p.len b
@@ -41,7 +41,7 @@ value-step ctx part at group b later p g rest some e group_is rest_is =
     ap₂ (λ (fs gs : List Field). fs ++ gs) (value-next ctx part at group g b rest p some e group_is rest_is)
     (ap later (omega (arith, ap length rest_is, length-drop p.len b, fits.1)))
 
--- the length of an attribute has an octet at least
+-- the length of an attribute has at least one octet
 pub width-some : (flags : ℕ) → 0 < length_width flags
 width-some flags = width-by (is_extended flags)
   where
@@ -49,7 +49,7 @@ width-some flags = width-by (is_extended flags)
     width-by true = omega arith
     width-by false = omega arith
 
--- a field of a section, by what stands next
+-- a field of a section, by its plan
 pub section-next : (ctx : Context) (part : SectionPart) (at : ℕ) (group g : Option Group) (b inner rest : List ℕ) (p : Plan ValuePart SectionPart)
     → section_plan ctx part b ≡ p → Fits ValuePart SectionPart (length b) p → g ≡ group_from at p.begins group
     → inner ≡ take p.inner_len (drop p.len b) → rest ≡ drop p.inner_len (drop p.len b)
@@ -60,7 +60,7 @@ section-next ctx part at group g b inner rest p is fits group_is inner_is rest_i
     (sym (ap (λ (q : Plan ValuePart SectionPart). fit (SectionPart.All Unread) q (length b)) is ∙ fit-same ValuePart SectionPart (SectionPart.All Unread) p (length b) fits))
     group_is inner_is rest_is
 
--- the same of one with nothing inside
+-- the same for a field with nothing inside
 section-leaf : (ctx : Context) (part : SectionPart) (at : ℕ) (group g : Option Group) (b rest : List ℕ) (p : Plan ValuePart SectionPart)
     → section_plan ctx part b ≡ p → Fits ValuePart SectionPart (length b) p → p.inner_len ≡ 0 → g ≡ group_from at p.begins group → rest ≡ drop p.len b
     → section_fields ctx part at group b ≡ record { at = at; len = p.len; kind = p.kind; group = g } ∷ section_fields ctx p.next (at + p.len) g rest
@@ -70,7 +70,7 @@ section-leaf ctx part at group g b rest p is fits none group_is rest_is =
     ∙ ap₂ (λ (fs : List Field) (n : ℕ). record { at = at; len = p.len; kind = p.kind; group = g } ∷ (fs ++ section_fields ctx p.next n g rest))
     (walk-none (Unit {0}) ValuePart (ValuePart.All Unread) (value_plan ctx) no_fields p.inner (at + p.len) g) (omega (arith, none))
 
--- the octets of a whole attribute and of those behind it
+-- the octets of a whole attribute and of those after it
 pub head-long : (b : List ℕ) (h : Head) → IsHead b h → 2 + h.width + (length h.value.now + length h.rest.now) ≡ length b
 head-long b h is =
     let n = attribute_len is.flags is.behind in
@@ -84,7 +84,7 @@ head-long b h is =
       is.whole,
     )
 
--- the fields of a whole attribute, and of those behind it
+-- the fields of a whole attribute, and of those after it
 pub attribute-next : (ctx : Context) (at : ℕ) (group : Option Group) (b : List ℕ) (h : Head) → IsHead b h
     → section_fields ctx SectionPart.AttributeFlags at group b
     ≡ head_fields at h.kind h.width

@@ -1,10 +1,10 @@
--- A walk, a field at a time.
+-- A message is split into fields, one at a time.
 use Rattle.bgp_fields.proofs.Prelude.{◌≡◌, ℕ, zero, suc, ◌+◌, ◌<◌, ◌≤◌, ◌&&◌, nat_lt, nat_le, cond, List, [], ◌∷◌, ◌++◌, length, take, drop, Option, None}
 use Rattle.bgp_fields.proofs.Prelude.{refl, sym, ap, ap₂, subst, ◌∙◌, arith, length-drop, length-take-le, and_parts, leb-true, ltb-true, le-leb, cond_both}
 use Rattle.bgp_fields.proofs.Prelude.{drop-drop, lt-ltb, Field, Group, Unread, Plan, fit, group_from, Telling, told, walk_within, walk}
 
 module _ (I S : Type 0) where
-  -- a plan that fits n octets has one of them at least, and no more than there are
+  -- a plan that fits n octets has at least one of them, and no more than n
   abbrev pub Fits : ℕ → Plan I S → Type 0
   Fits n p = (0 < p.len) × (p.len + p.inner_len ≤ n)
 
@@ -22,13 +22,13 @@ module _ (I S : Type 0) where
       (λ no. (more, omega arith)))
       (λ no. (some, omega arith))
 
-  -- one that fits is as it was
+  -- a plan that fits doesn't change
   pub fit-same : (stuck : S) (p : Plan I S) (n : ℕ) → Fits n p → fit stuck p n ≡ p
   fit-same stuck p n fits =
       rw (lt-ltb 0 p.len fits.0) (rw (le-leb p.len n (omega (arith, fits.1))) (rw (le-leb (p.len + p.inner_len) n fits.1) refl))
 
 module _ (I S : Type 0) (stuck : S) (plan : S → List ℕ → Plan I S) (inside : I → Telling) where
-  -- what is left behind the octets that a field takes
+  -- what is left after the octets of a field
   pub shorter : (p : Plan I S) (b : List ℕ) (n : ℕ) → Fits I S (length b) p → length b ≤ suc n → length (drop (p.len + p.inner_len) b) ≤ n
   shorter p b n fits le = omega (arith, length-drop (p.len + p.inner_len) b, fits.0, fits.1)
 
@@ -41,7 +41,7 @@ module _ (I S : Type 0) (stuck : S) (plan : S → List ℕ → Plan I S) (inside
       ∷ (inside p.inner (at + p.len) (group_from at p.begins group) (take p.inner_len (drop p.len b)) ++ fs))
       (same p.next (at + p.len + p.inner_len) (group_from at p.begins group))
 
-  -- more turns than octets tell nothing more
+  -- more turns than octets find nothing more
   pub walk_more : (n m : ℕ) (part : S) (at : ℕ) (group : Option Group) (b : List ℕ) → length b ≤ n → length b ≤ m
       → walk_within n stuck plan inside part at group b ≡ walk_within m stuck plan inside part at group b
   walk_more zero zero part at group b le_n le_m = refl
@@ -56,12 +56,12 @@ module _ (I S : Type 0) (stuck : S) (plan : S → List ℕ → Plan I S) (inside
       told-same (walk_within n stuck plan inside) (walk_within m stuck plan inside) p at group (x ∷ b)
       (λ next at group. walk_more n m next at group (drop (p.len + p.inner_len) (x ∷ b)) (shorter p (x ∷ b) n fits le_n) (shorter p (x ∷ b) m fits le_m))
 
-  -- nothing is told of no octets
+  -- no octets have no fields
   pub walk-none : (part : S) (at : ℕ) (group : Option Group) → walk stuck plan inside part at group [] ≡ []
   unfolding walk
   walk-none part at group = refl
 
-  -- one step of a walk
+  -- one step
   pub walk-step : (part : S) (at : ℕ) (group : Option Group) (x : ℕ) (b : List ℕ)
       → walk stuck plan inside part at group (x ∷ b)
       ≡ told inside (walk stuck plan inside) (fit stuck (plan part (x ∷ b)) (length (x ∷ b))) at group (x ∷ b)
@@ -73,14 +73,14 @@ module _ (I S : Type 0) (stuck : S) (plan : S → List ℕ → Plan I S) (inside
       (λ next at group. walk_more (length b) (length (drop (p.len + p.inner_len) (x ∷ b))) next at group (drop (p.len + p.inner_len) (x ∷ b))
       (shorter p (x ∷ b) (length b) fits (omega arith)) (omega arith))
 
-  -- the same, of a plan that is that of the octets
+  -- the same, for the plan of the octets
   pub walk-told : (part : S) (at : ℕ) (group : Option Group) (b : List ℕ) (p : Plan I S) → 0 < length b → p ≡ fit stuck (plan part b) (length b)
       → walk stuck plan inside part at group b ≡ told inside (walk stuck plan inside) p at group b
   walk-told part at group [] p some e = absurd (omega arith)
   walk-told part at group (x ∷ b) p some e =
       walk-step part at group x b ∙ ap (λ (q : Plan I S). told inside (walk stuck plan inside) q at group (x ∷ b)) (sym e)
 
-  -- something is told of some octets
+  -- octets have at least one field
   pub walk-some : (part : S) (at : ℕ) (group : Option Group) (b : List ℕ) → 0 < length b → 0 < length (walk stuck plan inside part at group b)
   walk-some part at group b some = omega (arith, ap length (walk-told part at group b (fit stuck (plan part b) (length b)) some refl))
 
@@ -102,7 +102,7 @@ module _ (I S : Type 0) (stuck : S) (plan : S → List ℕ → Plan I S) (inside
   pub fits-told : (part : S) (b : List ℕ) (p : Plan I S) → 0 < length b → p ≡ fit stuck (plan part b) (length b) → Fits I S (length b) p
   fits-told part b p some e = subst (Fits I S (length b)) (sym e) (fit-fits I S stuck (plan part b) (length b) some)
 
-  -- how long the octets are that were split off
+  -- the lengths of the octets that were split off
   pub record Lengths (b inner rest : List ℕ) (p : Plan I S) : Type 0 where
     pub some : 0 < p.len
     pub inner_len : length inner ≡ p.inner_len

@@ -1,10 +1,10 @@
--- What an iterator of fields has left.
+-- The fields that an iterator has left.
 use Rattle.std.specs.Prelude.{ℕ, ◌+◌, List, ◌++◌, length, None}
 use Rattle.bgp_fields.specs.declared.field.Field.{Field}
 use Rattle.bgp_fields.specs.declared.iter.FieldIter.{FieldIter}
 use Rattle.bgp_fields.specs.Fields.{value_fields, section_fields, message_fields}
 
--- where the section that was begun goes on, and where the message does
+-- the offsets at which the section that was begun continues, and the message
 abbrev pub section_at : FieldIter → ℕ
 section_at it = it.at + length it.value_octets.now
 

@@ -1,4 +1,4 @@
--- The fields of a message, from its first octet to its last one.
+-- The fields of a message, from its first octet to its last.
 use Rattle.std.specs.Prelude.{ℕ, List, [], ◌∷◌, length, None}
 use Rattle.bgp_open.specs.declared.context.Context.{Context}
 use Rattle.bgp_fields.specs.declared.field.Field.{Field}
@@ -9,7 +9,7 @@ use Rattle.bgp_fields.specs.declared.part.ValuePart.{ValuePart}
 use Rattle.bgp_fields.specs.Parts.{value_plan, section_plan, message_plan}
 use Rattle.bgp_fields.specs.Walk.{Telling, walk}
 
--- the fields of octets in which nothing is to stand: one, where there are octets
+-- the fields of octets where there should be none: one `Unread`, unless there are no octets
 abbrev pub no_fields : Unit {0} → Telling
 no_fields none at group [] = []
 no_fields none at group (x ∷ b) = record { at = at; len = length (x ∷ b); kind = Unread; group = group } ∷ []

@@ -5,7 +5,7 @@ use Rattle.bgp_fields.specs.declared.field.Field.{Field}
 use Rattle.bgp_fields.specs.declared.kind.FieldKind.{FieldKind}
 use Rattle.bgp_fields.specs.declared.kind.FieldKind.TheVariants.{Unread}
 
--- each field begins where the one before it ends and has an octet at least, from this place to that
+-- each field begins where the one before it ends and has at least one octet, between these two offsets
 abbrev pub Tiles : ℕ → ℕ → List Field → Type 0
 Tiles from to [] = from ≡ to
 Tiles from to (f ∷ fields) = (f.at ≡ from) × (0 < f.len) × Tiles (f.at + f.len) to fields
@@ -24,7 +24,7 @@ AllRead (f ∷ fields) = (is_unread f.kind ≡ false) × AllRead fields
 abbrev pub octets_in : List ℕ → Field → List ℕ
 octets_in octets f = take f.len (drop f.at octets)
 
--- the fields are the octets: none twice, none left out, in their order
+-- the fields are the octets: none twice, none left out, in order
 pub record AreTheOctets (octets : List ℕ) (fields : List Field) : Type 0 where
   pub placed : Tiles 0 (length octets) fields
   pub joined : flat_map (octets_in octets) fields ≡ octets

@@ -1,4 +1,4 @@
--- What stands next in a message (RFC 4271, section 4; RFC 4760, 5492, 6793 and 8092): a row for each part.
+-- The next field of a message (RFC 4271, section 4; RFC 4760, 5492, 6793 and 8092): a row for each part.
 use Rattle.std.specs.Prelude.{ℕ, ◌+◌, ◌-◌, ◌*◌, Bool, true, false, ◌||◌, ◌&&◌, ◌==◌, nat_le, nat_lt, List, [], ◌∷◌, length, slice_index, Option, None, Some, if◌then◌else◌}
 use Rattle.std.specs.Int.{w16, from_be_bytes}
 use Rattle.bgp_numbers.specs.declared.attribute.TheConstants.{ORIGIN, AS_PATH, NEXT_HOP, MULTI_EXIT_DISC, LOCAL_PREF, ATOMIC_AGGREGATE, AGGREGATOR, COMMUNITIES, MP_REACH_NLRI, MP_UNREACH_NLRI, AS4_PATH, AS4_AGGREGATOR, LARGE_COMMUNITY}
@@ -30,25 +30,25 @@ second_of b = slice_index b 1
 abbrev pub two_of : List ℕ → ℕ
 two_of b = from_be_bytes w16 (first_of b ∷ second_of b ∷ [])
 
--- the octets of a prefix, its length octet among them: none where the address hasn't as many bits
+-- the length of a prefix's encoding, including its length octet: 0 where the address has fewer bits
 abbrev pub prefix_len : ℕ → ℕ → ℕ
 prefix_len width l = if nat_le l (8 * width) then 1 + octets_for l else 0
 
--- a field of so many octets, and what follows it
+-- a field of n octets, and what follows it
 abbrev pub leaf : {I S : Type 0} → I → FieldKind → ℕ → S → Plan I S
 leaf none kind n next = record { kind = kind; len = n; begins = None; inner = none; inner_len = 0; next = next }
 
--- the same, of one octet, with which an attribute, a parameter or a capability of this code begins
+-- the same, of one octet, which begins an attribute, a parameter or a capability of this code
 abbrev pub opening : {I S : Type 0} → I → FieldKind → ℕ → S → Plan I S
 opening none kind code next = record { kind = kind; len = 1; begins = Some code; inner = none; inner_len = 0; next = next }
 
--- a length of so many octets, what is inside of so many, and what follows
+-- a length field of n octets, the octets inside, and what follows
 abbrev pub behind : {I S : Type 0} → FieldKind → ℕ → I → ℕ → S → Plan I S
 behind kind n inner inner_len next = record { kind = kind; len = n; begins = None; inner = inner; inner_len = inner_len; next = next }
 
--- ---- values
+-- ---- values of attributes and parameters
 
--- what the value of an attribute begins with, by its type
+-- the first part of an attribute's value, by its type
 abbrev pub attribute_values : Context → List (ℕ × ValuePart)
 attribute_values ctx =
     (ORIGIN, ValuePart.One FieldKind.Origin 1) ∷
@@ -68,16 +68,16 @@ attribute_values ctx =
 abbrev pub attribute_value : Context → ℕ → ValuePart
 attribute_value ctx type = entry_of type (attribute_values ctx) (ValuePart.All FieldKind.AttributeValue)
 
--- segments of this type are read: those of confederations in an AS4_PATH alone (RFC 6793, section 3)
+-- segments of this type are read: those of confederations only in an AS4_PATH (RFC 6793, section 3)
 abbrev pub is_segment : Bool → ℕ → Bool
 is_segment confederations code = (code == SET) || ((code == SEQUENCE) || (confederations && ((code == CONFED_SEQUENCE) || (code == CONFED_SET))))
 
--- what follows the count of a segment in so many octets, that of the count among them: as many AS numbers, one at least
+-- what follows the count of a segment, where n octets are left including the count: that number of AS numbers, at least one
 abbrev pub numbers_behind : Bool → Bool → ℕ → ℕ → ValuePart
 numbers_behind wide confederations count n =
     if nat_lt 0 count && nat_le (1 + count * number_width wide) n then ValuePart.Numbers wide confederations count else ValuePart.All FieldKind.Unread
 
--- what follows an AS number, where so many were left with it
+-- what follows an AS number, where this number was left including it
 abbrev pub behind_number : Bool → Bool → ℕ → ValuePart
 behind_number wide confederations left =
     if nat_lt 1 left then ValuePart.Numbers wide confederations (left - 1) else ValuePart.Segment wide confederations
@@ -100,7 +100,7 @@ abbrev pub reach_prefixes : Bool → ValuePart
 reach_prefixes true = ValuePart.Prefixes FieldKind.ReachPrefix6 true
 reach_prefixes false = ValuePart.Prefixes FieldKind.ReachPrefix4 false
 
--- the octets of an address
+-- the length of an address
 abbrev pub width_of : Bool → ℕ
 width_of ip6 = if ip6 then 16 else 4
 
@@ -111,22 +111,22 @@ capability_value code n =
     if code == FOUR_OCTET_AS then (if n == 4 then ValuePart.Capability FieldKind.AsNumber n else ValuePart.Capability FieldKind.Unread n) else
     ValuePart.Capability FieldKind.CapabilityValue n)
 
--- what follows the length of a capability in so many octets, that of the length among them
+-- what follows the length of a capability, where n octets are left including the length
 abbrev pub capability_behind : ℕ → ℕ → ℕ → ValuePart
 capability_behind code len n =
     if nat_lt n (1 + len) then ValuePart.All FieldKind.Unread else (
     if len == 0 then ValuePart.CapabilityCode else
     capability_value code len)
 
--- one field of so many octets, in which nothing else stands
+-- one field of n octets, with nothing inside
 abbrev pub one : FieldKind → ℕ → ValuePart → Plan (Unit {0}) ValuePart
 one kind n next = leaf tt kind n next
 
--- a next hop of so many octets, the first address alone where there are two
+-- a next hop of n octets, or the first address where there are two
 abbrev pub hop_plan : Bool → ℕ → Plan (Unit {0}) ValuePart
 hop_plan ip6 n = if n == 32 then one FieldKind.NextHop 16 ValuePart.LinkLocal else one FieldKind.NextHop n (ValuePart.Reserved ip6)
 
--- what stands next in the value of an attribute or of a parameter
+-- the next field of the value of an attribute or of a parameter
 abbrev pub value_plan : Context → ValuePart → List ℕ → Plan (Unit {0}) ValuePart
 value_plan ctx (ValuePart.One kind n) b = one kind n (ValuePart.All FieldKind.Unread)
 value_plan ctx (ValuePart.Row kind n) b = one kind n (ValuePart.Row kind n)
@@ -154,19 +154,19 @@ value_plan ctx (ValuePart.All kind) b = one kind (length b) (ValuePart.All Field
 
 -- ---- Withdrawn Routes, Path Attributes and Optional Parameters
 
--- what is inside of a parameter (RFC 5492, section 4)
+-- what is inside a parameter (RFC 5492, section 4)
 abbrev pub parameter_value : ℕ → ValuePart
 parameter_value code = if code == CAPABILITIES then ValuePart.CapabilityCode else ValuePart.All FieldKind.Unread
 
--- the length of an attribute with these flags: of two octets where the Extended Length bit is set, else of one (RFC 4271, section 4.3)
+-- the value of the length field of an attribute with these flags: two octets where the Extended Length bit is set, else one (RFC 4271, section 4.3)
 abbrev pub attribute_len : ℕ → List ℕ → ℕ
 attribute_len flags b = if is_extended flags then two_of b else first_of b
 
--- of a field that is no length
+-- for a field that is no length
 abbrev pub nothing_inside : ValuePart
 nothing_inside = ValuePart.All FieldKind.Unread
 
--- what stands next in a section
+-- the next field of a section
 abbrev pub section_plan : Context → SectionPart → List ℕ → Plan ValuePart SectionPart
 section_plan ctx SectionPart.Withdrawn b = leaf nothing_inside FieldKind.WithdrawnPrefix (prefix_len 4 (first_of b)) SectionPart.Withdrawn
 section_plan ctx SectionPart.ParameterType b = opening nothing_inside FieldKind.ParameterType (first_of b) (SectionPart.ParameterLength (first_of b))
@@ -180,7 +180,7 @@ section_plan ctx (SectionPart.All kind) b = leaf nothing_inside kind (length b) 
 
 -- ---- messages
 
--- what a body begins with, by the type of its message
+-- the first part of a body, by the type of its message
 abbrev pub body_part : Option Kind → MessagePart
 body_part (Some Kind.Open) = MessagePart.Version
 body_part (Some Kind.Update) = MessagePart.WithdrawnLength
@@ -190,11 +190,11 @@ body_part _ = MessagePart.All FieldKind.Unread
 abbrev pub nothing_in_section : SectionPart
 nothing_in_section = SectionPart.All FieldKind.Unread
 
--- one field in no section
+-- one field without a section
 abbrev pub alone : FieldKind → ℕ → MessagePart → Plan SectionPart MessagePart
 alone kind n next = leaf nothing_in_section kind n next
 
--- what stands next in a message
+-- the next field of a message
 abbrev pub message_plan : MessagePart → List ℕ → Plan SectionPart MessagePart
 message_plan MessagePart.Marker b = alone FieldKind.Marker 16 MessagePart.Length
 message_plan MessagePart.Length b = alone FieldKind.MessageLength 2 MessagePart.Kind

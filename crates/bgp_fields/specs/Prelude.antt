@@ -1,4 +1,4 @@
--- The names that other crates and the proofs cite, passed on from one place. Declares nothing.
+-- Re-exports the names that other crates and the proofs cite. Declares nothing.
 pub use Rattle.bgp_fields.specs.Walk.{Plan, Telling, fit, group_from, told, walk_within}
 unfoldable pub use Rattle.bgp_fields.specs.Walk.{walk}
 pub use Rattle.bgp_fields.specs.Parts.{alone, attribute_len, attribute_value, attribute_values, behind, behind_family, behind_number, body_part, capability_behind, capability_value, first_of, hop_behind, hop_plan, is_segment, leaf, message_plan, nothing_in_section, nothing_inside, numbers_behind, one, opening, parameter_value, prefix_len, reach_prefixes, section_plan, two_of, value_plan, width_of}

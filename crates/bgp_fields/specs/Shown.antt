@@ -1,4 +1,4 @@
--- The routes that prefix fields show, by family and place.
+-- The routes in prefix fields, by family and by the field of the message that has them.
 use Rattle.std.specs.Prelude.{◌≡◌, ◌++◌, ℕ, Bool, true, false, List, [], ◌∷◌, Option, None, Some, if◌then◌else◌}
 use Rattle.std.specs.List.{flat_map}
 use Rattle.bgp_prefix.specs.Prelude.{PrefixValue, one_prefix}
@@ -10,7 +10,7 @@ use Rattle.bgp_fields.specs.declared.kind.FieldKind.{FieldKind}
 use Rattle.bgp_fields.specs.declared.kind.FieldKind.TheVariants.{WithdrawnPrefix, UnreachPrefix4, UnreachPrefix6, ReachPrefix4, ReachPrefix6, NlriPrefix}
 use Rattle.bgp_fields.specs.Laws.{octets_in}
 
--- how many octets an address of a prefix of this kind has; none where it is no kind of prefix
+-- the length of an address in a prefix of this kind; none for any other kind
 abbrev pub prefix_width : FieldKind → Option ℕ
 prefix_width WithdrawnPrefix = Some 4
 prefix_width UnreachPrefix4 = Some 4
@@ -44,7 +44,7 @@ abbrev pub is_nlri_prefix : FieldKind → Bool
 is_nlri_prefix NlriPrefix = true
 is_nlri_prefix _ = false
 
--- the prefix that octets are, with nothing behind it
+-- the prefix that is all of the octets
 abbrev pub prefix_alone : Option (PrefixValue × List ℕ) → List PrefixValue
 prefix_alone (Some (p, [])) = p ∷ []
 prefix_alone _ = []
@@ -53,12 +53,12 @@ abbrev pub prefix_in : Option ℕ → List ℕ → List PrefixValue
 prefix_in None b = []
 prefix_in (Some width) b = prefix_alone (one_prefix width b)
 
--- the prefixes that fields of the chosen kinds are, in their order
+-- the prefixes in fields of the chosen kinds, in their order
 abbrev pub prefixes_shown : (FieldKind → Bool) → List ℕ → List Field → List PrefixValue
 prefixes_shown chosen octets fields =
     flat_map (λ f. if chosen f.kind then prefix_in (prefix_width f.kind) (octets_in octets f) else []) fields
 
--- the prefix fields are the routes of an UPDATE, by family and place
+-- the prefix fields are the routes of an UPDATE, by family and by the field that has them
 pub record ShowsRoutes (octets : List ℕ) (fields : List Field) (u : Update) : Type 0 where
   pub withdrawn : prefixes_shown is_withdrawn_prefix octets fields ≡ u.withdrawn
   pub unreach4 : prefixes_shown is_unreach_prefix4 octets fields ≡ gone_ip4 u.attrs.mp_unreach

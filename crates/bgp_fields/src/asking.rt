@@ -1,4 +1,4 @@
-//! The first attribute that asks for a reset, or for a withdrawal.
+//! The first attribute that calls for a reset, or for a withdrawal.
 
 ghost use Rattle.std.specs.Prelude.{◌≡◌, ◌≤◌, ◌+◌, length, IfSome, if◌then◌else◌};
 ghost use Rattle.bgp_wire.specs.Prelude.{has_octet};
@@ -11,7 +11,7 @@ use bgp_numbers::attribute::{MP_REACH_NLRI, MP_UNREACH_NLRI};
 use bgp_open::Context;
 use bgp_wire::OctetSet;
 
-/// Whether a judgement asks for a reset, or else for a withdrawal.
+/// Whether a judgement calls for a reset, or else for a withdrawal.
 fn asks_for(resets: bool, judged: &FoundAttr<'_>) -> bool
     ensures { result ≡ asks_for resets (found_attr_value judged.now) }
 {
@@ -29,7 +29,7 @@ fn carries_routes(kind: u8) -> bool
     kind == MP_REACH_NLRI || kind == MP_UNREACH_NLRI
 }
 
-/// Whether an attribute asks for that, where its type was seen before or not.
+/// Whether an attribute calls for that, where its type was seen before or not.
 fn attribute_asks(
     resets: bool,
     ctx: &Context,
@@ -46,7 +46,7 @@ fn attribute_asks(
     asks_for(resets, &judge_attribute(ctx, has_nlri, tlv))
 }
 
-/// Whether an attribute that is cut off asks for that.
+/// Whether an attribute that is cut off calls for that.
 fn cut_asks(resets: bool, rest: &[u8]) -> bool
     ensures { result ≡ asks_for resets (cut rest.now) }
 {
@@ -56,7 +56,7 @@ fn cut_asks(resets: bool, rest: &[u8]) -> bool
     }
 }
 
-/// The offset in the field of the first attribute that asks for a reset, or else for a withdrawal.
+/// The offset in the field of the first attribute that calls for a reset, or else for a withdrawal.
 pub(crate) fn first_asking(
     resets: bool,
     ctx: &Context,

@@ -1,4 +1,4 @@
-//! The test for which a message is answered by a NOTIFICATION.
+//! The test for which a NOTIFICATION is sent.
 
 ghost use Rattle.std.specs.Prelude.{◌≡◌, ◌≤◌, ◌+◌, length, option_map, true};
 ghost use Rattle.bgp_frame.specs.Prelude.{IsLength, message_in};
@@ -17,18 +17,18 @@ use bgp_numbers::error::{INVALID_NETWORK_FIELD, MALFORMED_ATTRIBUTE_LIST};
 use bgp_open::Context;
 use bgp_update::UpdateView;
 
-/// The test for which a message, or a header, is answered by a NOTIFICATION.
+/// The test for which a message, or a header, causes a NOTIFICATION.
 #[derive(Clone, Copy, Debug, PartialEq, Eq)]
 pub enum Cause {
-    /// One of a header (RFC 4271, section 6.1).
+    /// A test of a header (RFC 4271, section 6.1).
     Header,
-    /// One of an OPEN (RFC 4271, section 6.2).
+    /// A test of an OPEN (RFC 4271, section 6.2).
     Open,
     /// Withdrawn Routes Length or Total Path Attribute Length is too large (RFC 4271, section 6.3).
     Lengths,
     /// A prefix of Withdrawn Routes or NLRI is too long, or goes past the end (RFC 4271, section 6.3).
     Prefix,
-    /// An attribute that isn't recognised says that it is well-known (RFC 4271, section 6.3).
+    /// An attribute that isn't recognised is marked as well-known (RFC 4271, section 6.3).
     WellKnown,
     /// A second MP_REACH_NLRI or MP_UNREACH_NLRI (RFC 7606, section 3, item g).
     SecondRoutes,
@@ -42,11 +42,11 @@ pub enum Cause {
     NextHop,
     /// A prefix of one is too long, or goes past the end (RFC 7606, section 5.3).
     RoutePrefix,
-    /// An attribute asks for treat-as-withdraw where the message announces nothing (RFC 7606, section 5.2).
+    /// An attribute calls for treat-as-withdraw where the message announces nothing (RFC 7606, section 5.2).
     NothingAnnounced,
 }
 
-/// Of an attribute that isn't a second one.
+/// For an attribute that isn't a second one.
 fn cause_of_test(test: Option<MpTest>) -> Cause
     ensures { result ≡ cause_of_test test }
 {
@@ -59,7 +59,7 @@ fn cause_of_test(test: Option<MpTest>) -> Cause
     }
 }
 
-/// Of an attribute, by the answer's subcode, where it is whole.
+/// For an attribute, where it is whole, by the subcode of the NOTIFICATION.
 fn attribute_cause(ctx: &Context, subcode: u8, tlv: Option<Tlv<'_>>) -> Cause
     ensures { result ≡ attribute_cause ctx.now subcode (option_map tlv_value tlv.entry) }
 {
@@ -70,7 +70,7 @@ fn attribute_cause(ctx: &Context, subcode: u8, tlv: Option<Tlv<'_>>) -> Cause
     }
 }
 
-/// Of the body of an UPDATE whose lengths fit, by the answer's subcode.
+/// For the body of an UPDATE whose lengths fit, by the subcode of the NOTIFICATION.
 fn asked_cause(ctx: &Context, subcode: u8, sections: &Sections<'_>) -> Cause
     requires { length sections.now.withdrawn.now + (length sections.now.attributes.now + length sections.now.nlri.now) ≤ 4073 }
     ensures { result ≡ asked_cause ctx.now subcode (sections_value sections.now) (first_asking true (marks_of ctx.now (sections_value sections.now))) }
@@ -83,7 +83,7 @@ fn asked_cause(ctx: &Context, subcode: u8, sections: &Sections<'_>) -> Cause
     }
 }
 
-/// Of the body of an UPDATE, by the answer's subcode.
+/// For the body of an UPDATE, by the subcode of the NOTIFICATION.
 fn update_cause(ctx: &Context, subcode: u8, body: &[u8]) -> Cause
     requires { length body.now ≤ 4077 }
     ensures { result ≡ update_cause ctx.now subcode (parts_of body.now) }
@@ -94,7 +94,7 @@ fn update_cause(ctx: &Context, subcode: u8, body: &[u8]) -> Cause
     }
 }
 
-/// Of a message that is answered with this subcode.
+/// For a message with a NOTIFICATION of this subcode.
 fn answered_cause(ctx: &Context, kind: Kind, body: &[u8], subcode: u8) -> Cause
     requires { IsLength kind (19 + length body.now) }
     ensures { result ≡ answered_cause ctx.now kind body.now subcode }
@@ -105,7 +105,7 @@ fn answered_cause(ctx: &Context, kind: Kind, body: &[u8], subcode: u8) -> Cause
     }
 }
 
-/// The test for which a whole message is answered by a reset in a context: none where it isn't.
+/// The test for which a whole message causes a reset in a context: none where it doesn't.
 pub fn message_cause(ctx: &Context, frame: Frame<'_>) -> Option<Cause>
     requires { IsLength frame.kind (19 + length frame.body.now) }
     ensures { result ≡ reset_cause ctx.now (message_in frame.entry) }
@@ -119,7 +119,7 @@ pub fn message_cause(ctx: &Context, frame: Frame<'_>) -> Option<Cause>
     }
 }
 
-/// Why a whole message is answered by a reset in a context, where it is: [`message_span`] and [`message_cause`].
+/// Why a whole message causes a reset in a context, where it does: [`message_span`] and [`message_cause`].
 pub fn message_fault(ctx: &Context, frame: Frame<'_>) -> Option<Fault>
     requires { IsLength frame.kind (19 + length frame.body.now) }
     ensures { result ≡ reset_fault ctx.now (message_in frame.entry) }
@@ -129,7 +129,7 @@ pub fn message_fault(ctx: &Context, frame: Frame<'_>) -> Option<Fault>
     Some(Fault { span, cause })
 }
 
-/// Why a header is answered by a reset: [`header_span`].
+/// Why a header causes a reset: [`header_span`].
 pub fn header_fault(octets: &[u8], fault: HeadFault) -> Fault
     requires { length octets.now ≤ 65535 }
     ensures { result ≡ header_fault octets.now fault }

@@ -15,9 +15,9 @@ pub struct Group {
 /// A field: the octets of a message that have one meaning together.
 #[derive(Clone, Copy, PartialEq, Eq)]
 pub struct Field {
-    /// Its offset in the message. Below 4,096.
+    /// Its offset in the message: below 4,096.
     pub at: u16,
-    /// How many octets it has: at least one.
+    /// Its length: at least one octet.
     pub len: u16,
     /// What it is.
     pub kind: FieldKind,
@@ -25,16 +25,16 @@ pub struct Field {
     pub group: Option<Group>,
 }
 
-/// Octets of a message one behind the other: at least one.
+/// Adjacent octets of a message: at least one.
 #[derive(Clone, Copy, PartialEq, Eq)]
 pub struct Span {
     /// The offset of the first one in the message.
     pub at: u16,
-    /// How many there are.
+    /// The number of octets.
     pub len: u16,
 }
 
-/// Why a message is answered by a NOTIFICATION.
+/// Why a message causes a NOTIFICATION.
 #[derive(Clone, Copy, PartialEq, Eq)]
 pub struct Fault {
     /// The octets at fault.

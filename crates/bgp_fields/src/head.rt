@@ -5,17 +5,17 @@ ghost use Rattle.bgp_fields.specs.Prelude.{IsHead};
 
 use crate::section_plan::length_in;
 
-/// What an attribute begins with, the octets of its value, and those behind it.
+/// The head of an attribute, the octets of its value, and those after it.
 #[derive(Clone, Copy)]
 pub(crate) struct Head<'a> {
     pub(crate) kind: u8,
-    /// How many octets its length has.
+    /// The width of its length field.
     pub(crate) width: usize,
     pub(crate) value: &'a [u8],
     pub(crate) rest: &'a [u8],
 }
 
-/// The attribute that octets begin with, where they have all of it.
+/// The attribute that octets begin with, where it is whole.
 pub(crate) fn attribute_head(octets: &[u8]) -> Option<Head<'_>>
     ensures { IfSome result (λ h. IsHead octets.now h) }
 {

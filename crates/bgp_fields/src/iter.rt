@@ -12,21 +12,21 @@ use crate::value_plan::value_plan;
 use bgp_open::Context;
 use std::iter::FusedIterator;
 
-/// The fields of a message in their order: every octet of it stands in one of them, whatever comes. It takes no memory.
+/// The fields of a message in their order: every octet is in exactly one of them, whatever the message. It allocates nothing.
 #[derive(Clone, Copy)]
 pub struct FieldIter<'a> {
     pub(crate) ctx: Context,
-    /// The place of the first octet that is left.
+    /// The offset of the first octet that is left.
     pub(crate) at: usize,
     /// What is left of the value that was begun.
     pub(crate) value: ValuePart,
     pub(crate) value_group: Option<Group>,
     pub(crate) value_octets: &'a [u8],
-    /// What is left of the section behind it.
+    /// What is left of the section after it.
     pub(crate) section: SectionPart,
     pub(crate) section_group: Option<Group>,
     pub(crate) section_octets: &'a [u8],
-    /// What is left of the message behind that.
+    /// What is left of the message after that.
     pub(crate) message: MessagePart,
     pub(crate) message_octets: &'a [u8],
     pub(crate) ghost short: { at + (length value_octets.now + (length section_octets.now + length message_octets.now)) ≤ 4096 },
@@ -36,7 +36,7 @@ impl<'a> FieldIter<'a> {
     ghost use Rattle.bgp_fields.specs.Fields.{fields_of};
     ghost use Rattle.bgp_fields.specs.FieldIter.{fields_left};
 
-    /// The fields of a whole message, in a context: those of the header, then those of the body as its type says. Of a header with a fault the octets are
+    /// The fields of a whole message, in a context: those of the header, then those of the body by its type. For a header with a fault, `octets` are
     /// its 19.
     #[tactic(auto, unfolding(crate::specs::Walk::walk))]
     pub fn new(ctx: &Context, octets: &'a [u8]) -> FieldIter<'a>
@@ -151,7 +151,7 @@ impl<'a> Iterator for FieldIter<'a> {
 
 impl<'a> FusedIterator for FieldIter<'a> {}
 
-/// The group of the fields from a place on, where one of this code begins there, or none does.
+/// The group of the fields from an offset on, where one of this code begins there, or none does.
 pub(crate) fn group_from(at: usize, begins: Option<u8>, group: Option<Group>) -> Option<Group>
     requires { at ≤ 4096 }
     ensures { result ≡ group_from at begins group }

@@ -1,6 +1,6 @@
 //! The kinds of fields.
 
-/// What a field is. A prefix's kind says its family and where it stands.
+/// What a field is. The kind of a prefix gives its family and the field or attribute that has it.
 #[derive(Clone, Copy, PartialEq, Eq)]
 pub enum FieldKind {
     /// The Marker: sixteen octets (RFC 4271, section 4.1).
@@ -51,7 +51,7 @@ pub enum FieldKind {
     Origin,
     /// The type of a path's segment: one octet.
     SegmentType,
-    /// How many AS numbers a path's segment has: one octet.
+    /// The number of AS numbers in a path's segment: one octet.
     SegmentCount,
     /// An IPv4 address, of NEXT_HOP or an aggregator: four octets.
     Address,
@@ -89,6 +89,6 @@ pub enum FieldKind {
     ErrorSubcode,
     /// A NOTIFICATION's data.
     Data,
-    /// What can't be read as what ought to stand there, up to the end of what encloses it: the capability, parameter, attribute, field or message.
+    /// What can't be read as the field expected, up to the end of what encloses it: the capability, parameter, attribute, field or message.
     Unread,
 }

@@ -16,39 +16,39 @@ ghost use Rattle.bgp_msg.specs.Prelude.{out_of};
 ghost use Rattle.bgp_msg.specs.declared.message.Message.TheVariants as message;
 ghost use Rattle.bgp_fields.specs.Prelude.{fields_of, AllRead, AreTheOctets, ArePlaced, HasPlace, header_place, reset_place, ShowsRoutes, ShowsWithdrawal};
 
-/// The fields of a message are its octets, whatever they are: each field begins where the one before it ends and has an octet at least, none is given
-/// twice and none left out.
+/// The fields of a message are its octets, whatever they are: each field begins where the one before it ends and has at least one octet; none is
+/// returned twice and none left out.
 pub fn the_fields_are_the_message()
     ensures { (ctx : Context) (octets : List ℕ) → AreTheOctets octets (fields_of ctx octets) }
 {}
 
-/// Where a message is accepted without a note, each field of it was read: none is unread. Segments of confederations that AS4_PATH drops, and large
-/// communities that stand there once more, are fields like others.
+/// Where a message is accepted without a note, each field of it was read: none is `Unread`. Segments of confederations that AS4_PATH drops, and
+/// duplicates of large communities, are fields like others.
 pub fn an_accepted_message_is_read()
     ensures { (ctx : Context) (m : frame.Message) (octets : List ℕ) (said : Message)
         → AreOctets octets → IsFrame m octets → out_of ctx m ≡ Took said [] → AllRead (fields_of ctx octets) }
 {}
 
-/// The prefix fields of an UPDATE that is accepted are its routes: those of Withdrawn Routes, of MP_UNREACH_NLRI and MP_REACH_NLRI by family, and of NLRI.
-/// An attribute that is discarded gives none.
+/// The prefix fields of an UPDATE that is accepted are its routes: those of Withdrawn Routes, of MP_UNREACH_NLRI and MP_REACH_NLRI by family, and of
+/// NLRI. An attribute that is discarded has none.
 pub fn the_prefix_fields_are_the_routes()
     ensures { (ctx : Context) (m : frame.Message) (octets : List ℕ) (u : Update) (notes : List Note)
         → AreOctets octets → IsFrame m octets → out_of ctx m ≡ Took (message.Update u) notes → ShowsRoutes octets (fields_of ctx octets) u }
 {}
 
-/// So it is with an UPDATE that is treated as a withdrawal: its prefix fields are the routes that are withdrawn.
+/// The same for an UPDATE that is treated as a withdrawal: its prefix fields are the routes that are withdrawn.
 pub fn the_prefix_fields_are_what_is_withdrawn()
     ensures { (ctx : Context) (m : frame.Message) (octets : List ℕ) (routes : Routes) (notes : List Note)
         → AreOctets octets → IsFrame m octets → out_of ctx m ≡ Withdraw routes notes → ShowsWithdrawal octets (fields_of ctx octets) routes }
 {}
 
-/// Each reset has a place: octets of the message, one at least, for which it is answered so.
+/// Each reset has a span: octets of the message, at least one, that cause it.
 pub fn each_reset_has_a_place()
     ensures { (ctx : Context) (m : frame.Message) (octets : List ℕ) (n : Notification)
         → AreOctets octets → IsFrame m octets → out_of ctx m ≡ Reset n → HasPlace (length octets) (reset_place ctx m) }
 {}
 
-/// Each note on an UPDATE that is accepted has a place: octets of the message, one at least. One that says that an attribute is missing has none.
+/// Each note on an UPDATE that is accepted has a span: octets of the message, at least one. A note that an attribute is missing has none.
 pub fn each_note_has_a_place()
     ensures { (ctx : Context) (m : frame.Message) (octets : List ℕ) (u : Update) (notes : List Note)
         → AreOctets octets → IsFrame m octets → out_of ctx m ≡ Took (message.Update u) notes → ArePlaced (length octets) m.body notes }
@@ -60,7 +60,7 @@ pub fn each_note_on_a_withdrawal_has_a_place()
         → AreOctets octets → IsFrame m octets → out_of ctx m ≡ Withdraw routes notes → ArePlaced (length octets) m.body notes }
 {}
 
-/// Each fault of a header has a place within its 19 octets.
+/// Each fault of a header has a span within its 19 octets.
 pub fn each_header_fault_has_a_place()
     ensures { (octets : List ℕ) (f : HeadFault) → 19 ≤ length octets → head_of octets ≡ Err f → HasPlace 19 (Some (header_place octets f)) }
 {}

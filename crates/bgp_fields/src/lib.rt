@@ -1,4 +1,4 @@
-//! The fields of a message: each octet of it, whatever comes, and the place of each fault.
+//! The fields of a message: each octet of it, whatever the message, and the span of each fault.
 #![tactic(auto)]
 
 mod asking;

@@ -1,4 +1,4 @@
-//! The fields of a message in a list of the caller's: as an iterator gives them, but what is left stands in registers and not in an iterator.
+//! The fields of a message in the caller's list: those of the iterator, but faster, since its state stays in registers.
 
 ghost use Rattle.std.specs.Prelude.{◌≡◌, ◌≤◌, ◌<◌, ◌+◌, ◌++◌, length, map, drop, None};
 ghost use Rattle.bgp_fields.specs.declared.part.SectionPart.TheVariants as section;
@@ -18,19 +18,19 @@ use crate::section_plan::{attribute_value, section_plan};
 use crate::value_plan::value_plan;
 use bgp_open::Context;
 
-/// What a field is told as in a list.
+/// The type of the entries of a list of fields.
 pub trait Listed: Copy {
     ghost use Rattle.bgp_fields.specs.declared.field.Field.{Field};
 
-    /// A field as it is told.
+    /// The entry of a field.
     ghost told: { Field → Self };
 
-    /// Tells a field.
+    /// Makes the entry of a field.
     fn of(field: Field) -> Self
         ensures { result ≡ told field };
 }
 
-/// Lists the fields of a value behind so many places. Answers how many places are taken.
+/// Lists the fields of a value after the first `count` entries. Returns the number of entries used.
 fn list_value<T: Listed>(
     ctx: &Context,
     part: ValuePart,
@@ -45,7 +45,7 @@ fn list_value<T: Listed>(
     requires room { count + length (value_fields ctx.now part at group octets.now) ≤ length list.old }
     ensures list { list.new ≡ listed count (map T.told (value_fields ctx.now part at group octets.now)) list.old }
     ensures count { result ≡ count + length (value_fields ctx.now part at group octets.now) }
-    // Each field has an octet at least.
+    // Each field has at least one octet.
     ensures few { result ≤ at + length octets.now }
 {
     let mut next = part;
@@ -66,7 +66,7 @@ fn list_value<T: Listed>(
     taken
 }
 
-/// Lists the fields of a value in which those like the first stand one behind another. Answers how many places are taken.
+/// Lists the fields of a value where those like the first follow one another. Returns the number of entries used.
 fn list_row<T: Listed>(
     ctx: &Context,
     part: ValuePart,
@@ -98,7 +98,7 @@ fn list_row<T: Listed>(
     list_value(ctx, part, usize::from(at), first.group, left, list, taken)
 }
 
-/// Lists the fields of what is inside of an attribute or a parameter behind so many places. Answers how many places are taken.
+/// Lists the fields inside an attribute or a parameter after the first `count` entries. Returns the number of entries used.
 #[inline(always)]
 fn list_inside<T: Listed>(
     ctx: &Context,
@@ -128,7 +128,7 @@ fn list_inside<T: Listed>(
     }
 }
 
-/// Lists the fields of a section, one by one, behind so many places. Answers how many places are taken.
+/// Lists the fields of a section, one by one, after the first `count` entries. Returns the number of entries used.
 fn list_any_section<T: Listed>(
     ctx: &Context,
     part: SectionPart,
@@ -143,7 +143,7 @@ fn list_any_section<T: Listed>(
     requires room { count + length (section_fields ctx.now part at group octets.now) ≤ length list.old }
     ensures list { list.new ≡ listed count (map T.told (section_fields ctx.now part at group octets.now)) list.old }
     ensures count { result ≡ count + length (section_fields ctx.now part at group octets.now) }
-    // Each field has an octet at least.
+    // Each field has at least one octet.
     ensures few { result ≤ at + length octets.now }
 {
     let mut next = part;
@@ -166,7 +166,7 @@ fn list_any_section<T: Listed>(
     taken
 }
 
-/// Lists the flags, the type and the length of an attribute behind so many places.
+/// Lists the flags, the type and the length of an attribute after the first `count` entries.
 #[inline(always)]
 fn list_head<T: Listed>(at: usize, head: &Head<'_>, list: &mut [T], count: usize)
     requires few { count ≤ at }
@@ -180,7 +180,7 @@ fn list_head<T: Listed>(at: usize, head: &Head<'_>, list: &mut [T], count: usize
     list[count + 2] = T::of(field(at + 2, head.width, FieldKind::AttributeLength, group));
 }
 
-/// Lists the fields of path attributes behind so many places. Answers how many places are taken.
+/// Lists the fields of path attributes after the first `count` entries. Returns the number of entries used.
 fn list_attributes<T: Listed>(
     ctx: &Context,
     at: usize,
@@ -209,7 +209,7 @@ fn list_attributes<T: Listed>(
         place += head.value.len();
         left = head.rest;
     }
-    // What is left is no whole attribute.
+    // What is left isn't a whole attribute.
     list_any_section(
         ctx,
         SectionPart::AttributeFlags,
@@ -221,7 +221,7 @@ fn list_attributes<T: Listed>(
     )
 }
 
-/// Lists the fields of a section behind so many places. Answers how many places are taken.
+/// Lists the fields of a section after the first `count` entries. Returns the number of entries used.
 #[inline(always)]
 fn list_section<T: Listed>(
     ctx: &Context,
@@ -248,7 +248,7 @@ fn list_section<T: Listed>(
     }
 }
 
-/// Lists the fields of a message behind so many places. Answers how many places are taken.
+/// Lists the fields of a message after the first `count` entries. Returns the number of entries used.
 fn list_message<T: Listed>(
     ctx: &Context,
     part: MessagePart,
@@ -282,7 +282,7 @@ fn list_message<T: Listed>(
 }
 
 impl<'a> FieldIter<'a> {
-    /// Writes the fields that are left to the first places of a list, which has room for them. Answers how many they are.
+    /// Writes the fields that are left to the first entries of a list, which has room for them. Returns their number.
     pub fn list<T: Listed>(self, list: &mut [T]) -> usize
         requires { length (fields_left self) ≤ length list.old }
         ensures list { list.new ≡ map T.told (fields_left self.entry) ++ drop (length (fields_left self.entry)) list.old }

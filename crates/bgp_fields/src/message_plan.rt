@@ -1,4 +1,4 @@
-//! What stands next in a message.
+//! The next field of a message.
 
 ghost use Rattle.std.specs.Prelude.{◌≡◌};
 ghost use Rattle.bgp_frame.specs.Prelude.{kind_of};
@@ -13,10 +13,10 @@ use crate::part::{MessagePart, SectionPart};
 use crate::plan::MessagePlan;
 use bgp_numbers::message;
 
-/// Nothing that can be read.
+/// A part that can't be read.
 const STUCK: MessagePart = MessagePart::All(FieldKind::Unread);
 
-/// What a body begins with, by the type of its message.
+/// The first part of a body, by the type of its message.
 fn body_part(code: u8) -> MessagePart
     ensures { result ≡ body_part (kind_of code) }
 {
@@ -28,14 +28,14 @@ fn body_part(code: u8) -> MessagePart
     }
 }
 
-/// A field of so many octets, and what follows it.
+/// A field of `len` octets, and what follows it.
 fn alone(kind: FieldKind, len: usize, next: MessagePart) -> MessagePlan
     ensures { message_planned result ≡ alone kind len next }
 {
     behind(kind, len, SectionPart::All(FieldKind::Unread), 0, next)
 }
 
-/// A length of so many octets, the section inside, and what follows it.
+/// A length field of `len` octets, the section inside, and what follows it.
 fn behind(
     kind: FieldKind,
     len: usize,
@@ -54,7 +54,7 @@ fn behind(
     }
 }
 
-/// The length of an OPEN's parameters, and these.
+/// The length of an OPEN's parameters, and the parameters.
 fn parameters_length(len: u8) -> MessagePlan
     ensures { message_planned result ≡ behind ParametersLength 1 section.ParameterType len (message.All Unread) }
 {
@@ -67,7 +67,7 @@ fn parameters_length(len: u8) -> MessagePlan
     )
 }
 
-/// What stands next in these octets.
+/// The next field of these octets.
 #[inline(always)]
 pub(crate) fn message_plan(part: MessagePart, octets: &[u8]) -> MessagePlan
     ensures { message_planned result ≡ message_plan part octets.now }

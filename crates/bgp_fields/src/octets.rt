@@ -3,7 +3,7 @@
 ghost use Rattle.std.specs.Prelude.{◌≡◌, slice_index};
 ghost use Rattle.bgp_fields.specs.Prelude.{two_of, prefix_len, width_of};
 
-/// An octet, or 0 behind the last one.
+/// The octet at an offset, or 0 past the end.
 pub(crate) fn octet(octets: &[u8], at: usize) -> u8
     ensures { result ≡ slice_index octets.now at }
 {
@@ -20,14 +20,14 @@ pub(crate) fn two(octets: &[u8]) -> u16
     u16::from_be_bytes([octet(octets, 0), octet(octets, 1)])
 }
 
-/// The octets of an address.
+/// The length of an address.
 fn width_of(ip6: bool) -> u8
     ensures { result ≡ width_of ip6 }
 {
     if ip6 { 16 } else { 4 }
 }
 
-/// The octets of a prefix of this length in bits, its length octet among them: none where the address hasn't as many bits.
+/// The length of the encoding of a prefix of this length in bits, including its length octet: 0 where the address has fewer bits.
 pub(crate) fn prefix_len(ip6: bool, bits: u8) -> usize
     ensures { result ≡ prefix_len (width_of ip6) bits }
 {

@@ -1,4 +1,4 @@
-//! The place of an OPEN's fault.
+//! The span of an OPEN's fault.
 
 ghost use Rattle.std.specs.Prelude.{◌≡◌, ◌≤◌, length};
 ghost use Rattle.bgp_open.specs.Prelude.{is_short_hold, is_zero_id};
@@ -9,7 +9,7 @@ use crate::place::span;
 use crate::rests::{rest_of_capabilities, rest_of_parameters};
 use bgp_numbers::{VERSION, parameter};
 
-/// The octets of the parameter or capability at the front, as many as there are.
+/// The length of the parameter or capability at the front, or of those of its octets that exist.
 fn item_extent(octets: &[u8]) -> usize
     ensures value { result ≡ item_extent octets.now }
     ensures small { result ≤ 257 }
@@ -20,7 +20,7 @@ fn item_extent(octets: &[u8]) -> usize
     }
 }
 
-/// The capability that can't be read in a value that begins at this place.
+/// The capability that can't be read in a value that begins at this offset.
 fn capability_span(at: usize, value: &[u8]) -> Span
     requires at { at ≤ 8192 }
     requires short { length value.now ≤ 8192 }
@@ -33,7 +33,7 @@ fn capability_span(at: usize, value: &[u8]) -> Span
     )
 }
 
-/// The parameter that can't be read at the front of octets that begin at this place, or the capability of it.
+/// The parameter that can't be read at the front of octets that begin at this offset, or its capability that can't.
 fn parameter_span(at: usize, octets: &[u8]) -> Option<Span>
     requires at { at ≤ 4200 }
     requires short { length octets.now ≤ 4096 }
@@ -62,7 +62,7 @@ fn parameters_span(parameters: &[u8]) -> Option<Span>
     parameter_span(29 + parameters.len().saturating_sub(rest.len()), rest)
 }
 
-/// Whether it is 1 or 2.
+/// Whether a Hold Time is 1 or 2.
 fn is_short_hold(hold: u16) -> bool
     ensures { result ≡ is_short_hold hold }
 {
@@ -76,7 +76,7 @@ fn is_zero_id(id: [u8; 4]) -> bool
     id[0] == 0 && id[1] == 0 && id[2] == 0 && id[3] == 0
 }
 
-/// The field of the first test of an OPEN's body that applies.
+/// The field that the first failed test of an OPEN's body is about.
 pub(crate) fn open_span(body: &[u8]) -> Option<Span>
     requires least { 10 ≤ length body.now }
     requires most { length body.now ≤ 4077 }

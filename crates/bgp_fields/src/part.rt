@@ -1,8 +1,8 @@
-//! What stands next, by what encloses it.
+//! The part of a message that the next field begins, by what encloses it.
 
 use crate::kind::FieldKind;
 
-/// What stands next in a message, in nothing smaller.
+/// The next part of a message, outside sections.
 #[derive(Clone, Copy)]
 pub(crate) enum MessagePart {
     /// The header (RFC 4271, section 4.1).
@@ -26,15 +26,15 @@ pub(crate) enum MessagePart {
     All(FieldKind),
 }
 
-/// What stands next in Withdrawn Routes, Path Attributes or Optional Parameters.
+/// The next part of Withdrawn Routes, Path Attributes or Optional Parameters.
 #[derive(Clone, Copy)]
 pub(crate) enum SectionPart {
     /// A prefix of Withdrawn Routes.
     Withdrawn,
-    /// An optional parameter (RFC 4271, section 4.2), its length behind this type.
+    /// An optional parameter (RFC 4271, section 4.2), its length after this type.
     ParameterType,
     ParameterLength(u8),
-    /// A path attribute (RFC 4271, section 4.3), its type behind these flags, its length behind these flags and this type.
+    /// A path attribute (RFC 4271, section 4.3), its type after these flags, its length after these flags and this type.
     AttributeFlags,
     AttributeType(u8),
     AttributeLength(u8, u8),
@@ -42,35 +42,35 @@ pub(crate) enum SectionPart {
     All(FieldKind),
 }
 
-/// What stands next in the value of an attribute or of a parameter.
+/// The next part of the value of an attribute or of a parameter.
 #[derive(Clone, Copy)]
 pub(crate) enum ValuePart {
-    /// One field of this kind and of so many octets, and nothing behind it.
+    /// One field of this kind and length in octets, and nothing after it.
     One(FieldKind, u8),
-    /// Fields of this kind and of so many octets each.
+    /// Fields of this kind and length in octets each.
     Row(FieldKind, u8),
-    /// Prefixes of IPv6, else of IPv4, each a field of this kind.
+    /// Prefixes of IPv6 if true, else of IPv4, each a field of this kind.
     Prefixes(FieldKind, bool),
-    /// The AS number of an aggregator, of four octets or of two, and then its address.
+    /// The AS number of an aggregator, of four octets or two, and then its address.
     Aggregator(bool),
-    /// A segment of a path of AS numbers of four octets, else of two, which may have segments of confederations or not.
+    /// A segment of a path of AS numbers of four octets, else of two, in which segments of confederations are read or not.
     Segment(bool, bool),
     /// The count of a segment.
     SegmentCount(bool, bool),
-    /// So many AS numbers of a segment, and then segments.
+    /// This number of AS numbers of a segment, and then segments.
     Numbers(bool, bool, u8),
-    /// The family of MP_REACH_NLRI, else of MP_UNREACH_NLRI, its SAFI behind this AFI (RFC 4760, sections 3 and 4).
+    /// The family of MP_REACH_NLRI, else of MP_UNREACH_NLRI, its SAFI after this AFI (RFC 4760, sections 3 and 4).
     Afi(bool),
     Safi(bool, u16),
-    /// The rest of MP_REACH_NLRI, of IPv6 or else of IPv4, its next hop behind this length.
+    /// The rest of MP_REACH_NLRI, of IPv6 or else of IPv4, its next hop after this length.
     NextHopLength(bool),
     NextHop(bool, u8),
     LinkLocal,
     Reserved(bool),
-    /// A capability (RFC 5492, section 4), its length behind this code.
+    /// A capability (RFC 5492, section 4), its length after this code.
     CapabilityCode,
     CapabilityLength(u8),
-    /// The value of a capability: one field of this kind and of so many octets.
+    /// The value of a capability: one field of this kind and length in octets.
     Capability(FieldKind, u8),
     /// The value of a capability for multiprotocol extensions (RFC 4760, section 8).
     CapabilityAfi,

@@ -1,4 +1,4 @@
-//! The place of each fault.
+//! The span of each fault.
 
 ghost use Rattle.std.specs.Prelude.{◌≡◌, ◌≤◌, ◌+◌, Err, Some, length, drop, option_map};
 ghost use Rattle.bgp_frame.specs.declared.fault.HeadFault.{HeadFault};
@@ -20,7 +20,7 @@ use bgp_msg::{OutcomeView, view_frame};
 use bgp_open::Context;
 use bgp_update::{Note, UpdateView};
 
-/// So many octets from a place on.
+/// A number of octets from an offset on.
 pub(crate) fn span(at: usize, len: usize) -> Span
     requires at { at ≤ 65535 }
     requires len { len ≤ 65535 }
@@ -32,7 +32,7 @@ pub(crate) fn span(at: usize, len: usize) -> Span
     }
 }
 
-/// The place of the first octet that isn't 255, or how many octets there are.
+/// The offset of the first octet that isn't 255, or the number of octets.
 fn first_other(octets: &[u8]) -> usize
     ensures value { result ≡ first_other 0 octets.now }
     ensures within { result ≤ length octets.now }
@@ -46,7 +46,7 @@ fn first_other(octets: &[u8]) -> usize
     at
 }
 
-/// The octets for which a header with a fault is answered (RFC 4271, section 6.1): the first octet of the Marker that isn't 255, the Length, or the Type.
+/// The octets of a header that cause its fault (RFC 4271, section 6.1): the first octet of the Marker that isn't 255, the Length, or the Type.
 /// `octets` begin with the header, whose fault it is.
 pub fn header_span(octets: &[u8], fault: HeadFault) -> Span
     requires { length octets.now ≤ 65535 }
@@ -59,7 +59,7 @@ pub fn header_span(octets: &[u8], fault: HeadFault) -> Span
     }
 }
 
-/// The octets of the attribute at the front, and all of one that is cut off.
+/// The length of the attribute at the front, or of all octets where it is cut off.
 fn attribute_extent(octets: &[u8]) -> usize
     ensures value { result ≡ attribute_extent octets.now (one_tlv octets.now) }
     ensures within { result ≤ length octets.now }
@@ -71,7 +71,7 @@ fn attribute_extent(octets: &[u8]) -> usize
     }
 }
 
-/// What is left of octets from a place on.
+/// What is left of octets from an offset on.
 fn from_place(octets: &[u8], at: usize) -> &[u8]
     ensures value { result.now ≡ drop at octets.now }
     ensures within { length result.now ≤ length octets.now }
@@ -82,7 +82,7 @@ fn from_place(octets: &[u8], at: usize) -> &[u8]
     }
 }
 
-/// The attribute at a place of the field.
+/// The attribute at an offset of the field.
 fn attribute_span(sections: &Sections<'_>, at: usize) -> Span
     requires at { at ≤ 4096 }
     requires short { length sections.now.withdrawn.now + (length sections.now.attributes.now + length sections.now.nlri.now) ≤ 4096 }
@@ -95,7 +95,7 @@ fn attribute_span(sections: &Sections<'_>, at: usize) -> Span
     )
 }
 
-/// The first attribute that asks for a reset, or else for a withdrawal.
+/// The first attribute that calls for a reset, or else for a withdrawal.
 fn asking_span(resets: bool, ctx: &Context, sections: &Sections<'_>) -> Option<Span>
     requires { length sections.now.withdrawn.now + (length sections.now.attributes.now + length sections.now.nlri.now) ≤ 4073 }
     ensures { result ≡ asking_place resets (sections_value sections.now) (marks_of ctx.now (sections_value sections.now)) }
@@ -107,7 +107,7 @@ fn asking_span(resets: bool, ctx: &Context, sections: &Sections<'_>) -> Option<S
     }
 }
 
-/// The first bad prefix of a field that begins at this place.
+/// The first bad prefix of a field that begins at this offset.
 fn run_span(at: usize, octets: &[u8]) -> Option<Span>
     requires at { at ≤ 8192 }
     requires short { length octets.now ≤ 8192 }
@@ -122,7 +122,7 @@ fn run_span(at: usize, octets: &[u8]) -> Option<Span>
     ))
 }
 
-/// The length that leaves no room.
+/// The length field that is too large.
 fn length_span(body: &[u8]) -> Span
     requires { length body.now ≤ 4096 }
     ensures { result ≡ length_place (behind_two body.now) }
@@ -133,7 +133,7 @@ fn length_span(body: &[u8]) -> Span
     }
 }
 
-/// The octets for which these sections are answered by a reset, where they are.
+/// The octets of these sections that cause a reset, if any do.
 fn parts_span(ctx: &Context, sections: &Sections<'_>) -> Option<Span>
     requires { length sections.now.withdrawn.now + (length sections.now.attributes.now + length sections.now.nlri.now) ≤ 4073 }
     ensures { result ≡ parts_place (sections_value sections.now) (marks_of ctx.now (sections_value sections.now)) }
@@ -151,7 +151,7 @@ fn parts_span(ctx: &Context, sections: &Sections<'_>) -> Option<Span>
     asking_span(false, ctx, sections)
 }
 
-/// The octets for which the body of an UPDATE is answered by a reset, where it is.
+/// The octets of an UPDATE's body that cause a reset, if any do.
 fn update_span(ctx: &Context, body: &[u8]) -> Option<Span>
     requires { length body.now ≤ 4077 }
     ensures { result ≡ update_place ctx.now body.now (parts_of body.now) }
@@ -162,7 +162,7 @@ fn update_span(ctx: &Context, body: &[u8]) -> Option<Span>
     }
 }
 
-/// The octets of a whole message that a note on it is about: its attribute, which for one that is cut off goes on to the end of the path attributes.
+/// The octets of a whole message that a note on it is about: its attribute, or all up to the end of the path attributes where it is cut off.
 /// None for a note that an attribute is missing, or of another message.
 pub fn note_span(octets: &[u8], note: &Note) -> Option<Span>
     requires { length octets.now ≤ 4096 }
@@ -177,9 +177,9 @@ pub fn note_span(octets: &[u8], note: &Note) -> Option<Span>
     Some(attribute_span(&sections, at - field_at))
 }
 
-/// The octets for which a whole message is answered by a reset in a context, where it is: an OPEN's field, parameter or capability; an UPDATE's attribute,
-/// the first bad prefix of a field, or the length that leaves no room; of 3/1 for an UPDATE that announces nothing the first attribute for which it would be
-/// treated as a withdrawal. None where it isn't answered so.
+/// The octets of a whole message that cause a reset in a context, if any do: an OPEN's field, parameter or capability; an UPDATE's attribute,
+/// the first bad prefix of a field, or the length field that is too large; for 3/1 in an UPDATE that announces nothing, the first attribute that calls
+/// for a withdrawal. None where its outcome is another.
 pub fn message_span(ctx: &Context, frame: Frame<'_>) -> Option<Span>
     requires { IsLength frame.kind (19 + length frame.body.now) }
     ensures { result ≡ reset_place ctx.now (message_in frame.entry) }
@@ -191,7 +191,7 @@ pub fn message_span(ctx: &Context, frame: Frame<'_>) -> Option<Span>
     }
 }
 
-/// The octets for which a body would be answered by a reset.
+/// The octets of a body that would cause a reset.
 fn body_span(ctx: &Context, kind: Kind, body: &[u8]) -> Option<Span>
     requires { IsLength kind (19 + length body.now) }
     ensures { result ≡ body_place ctx.now kind body.now }
@@ -203,8 +203,8 @@ fn body_span(ctx: &Context, kind: Kind, body: &[u8]) -> Option<Span>
     }
 }
 
-/// The octets for which what octets begin with, a whole message or a header with a fault, is answered by a reset in a context: as [`header_span`] and
-/// [`message_span`] say, whatever stands behind it. None where it isn't, or where there is less than a message.
+/// The octets that cause a reset in a context, if these begin with a whole message or a header with a fault: as by [`header_span`] and
+/// [`message_span`], whatever follows. None where there is no reset, or less than a message.
 pub fn reset_span(ctx: &Context, octets: &[u8]) -> Option<Span>
     requires { length octets.now ≤ 4096 }
     ensures front { IsResetPlace ctx.now octets.now result }

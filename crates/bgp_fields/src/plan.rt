@@ -1,4 +1,4 @@
-//! What stands next: plans, and how they fit the octets that are there.
+//! Plans of the next field, fitted to the octets that are left.
 
 ghost use Rattle.std.specs.Prelude.{◌≡◌};
 ghost use Rattle.bgp_fields.specs.declared.kind.FieldKind.TheVariants.{Unread};
@@ -30,7 +30,7 @@ pub(crate) struct SectionPlan {
     pub(crate) next: SectionPart,
 }
 
-/// A field of a message, the octets of the section behind it, and what follows these.
+/// A field of a message, the octets of the section after it, and what follows these.
 #[derive(Clone, Copy)]
 pub(crate) struct MessagePlan {
     pub(crate) kind: FieldKind,
@@ -41,7 +41,7 @@ pub(crate) struct MessagePlan {
 }
 
 impl ValuePlan {
-    /// In so many octets.
+    /// The plan where this number of octets is left.
     pub(crate) fn fit(self, left: usize) -> ValuePlan
         ensures { value_planned result ≡ fit (value.All Unread) (value_planned self) left }
     {
@@ -58,7 +58,7 @@ impl ValuePlan {
 }
 
 impl SectionPlan {
-    /// In so many octets.
+    /// The plan where this number of octets is left.
     pub(crate) fn fit(self, left: usize) -> SectionPlan
         ensures { section_planned result ≡ fit (section.All Unread) (section_planned self) left }
     {
@@ -77,7 +77,7 @@ impl SectionPlan {
 }
 
 impl MessagePlan {
-    /// In so many octets.
+    /// The plan where this number of octets is left.
     pub(crate) fn fit(self, left: usize) -> MessagePlan
         ensures { message_planned result ≡ fit (message.All Unread) (message_planned self) left }
     {

@@ -20,7 +20,7 @@ fn behind_prefix(octets: &[u8]) -> Option<&[u8]>
     Some(rest)
 }
 
-/// What is left behind the IPv4 prefixes that octets begin with.
+/// What is left after the IPv4 prefixes that octets begin with.
 pub(crate) fn rest_of_run(octets: &[u8]) -> &[u8]
     ensures { result.now ≡ (run_of 4 octets.now).1 }
 {
@@ -31,7 +31,7 @@ pub(crate) fn rest_of_run(octets: &[u8]) -> &[u8]
     rest
 }
 
-/// Whether a value of this code means something: the values of two codes have four octets.
+/// Whether a value of this code has a meaning: the values of two codes have four octets.
 fn has_meaning(code: u8, value: &[u8]) -> bool
     ensures { result ≡ is_some (capability_of code value.now) }
 {
@@ -58,7 +58,7 @@ fn behind_capability(octets: &[u8]) -> Option<&[u8]>
     Some(rest)
 }
 
-/// What is left behind the capabilities that octets begin with.
+/// What is left after the capabilities that octets begin with.
 pub(crate) fn rest_of_capabilities(octets: &[u8]) -> &[u8]
     ensures { result.now ≡ (pieces one_capability octets.now).1 }
 {
@@ -83,7 +83,7 @@ fn behind_parameter(octets: &[u8]) -> Option<&[u8]>
     Some(rest)
 }
 
-/// What is left behind the parameters that octets begin with.
+/// What is left after the parameters that octets begin with.
 pub(crate) fn rest_of_parameters(octets: &[u8]) -> &[u8]
     ensures value { result.now ≡ (pieces one_parameter octets.now).1 }
     ensures within { length result.now ≤ length octets.now }

@@ -1,4 +1,4 @@
-//! What stands next in Withdrawn Routes, Path Attributes or Optional Parameters.
+//! The next field of Withdrawn Routes, Path Attributes or Optional Parameters.
 
 ghost use Rattle.std.specs.Prelude.{◌≡◌};
 ghost use Rattle.bgp_attr.specs.Prelude.{length_width};
@@ -17,7 +17,7 @@ use bgp_open::Context;
 /// Nothing inside.
 const NOTHING: ValuePart = ValuePart::All(FieldKind::Unread);
 
-/// What the value of an attribute begins with, by its type.
+/// The first part of an attribute's value, by its type.
 pub(crate) fn attribute_value(ctx: &Context, kind: u8) -> ValuePart
     ensures { result ≡ attribute_value ctx.now kind }
 {
@@ -39,7 +39,7 @@ pub(crate) fn attribute_value(ctx: &Context, kind: u8) -> ValuePart
     }
 }
 
-/// What is inside of a parameter, by its type.
+/// What is inside a parameter, by its type.
 fn parameter_value(code: u8) -> ValuePart
     ensures { result ≡ parameter_value code }
 {
@@ -50,7 +50,7 @@ fn parameter_value(code: u8) -> ValuePart
     }
 }
 
-/// A field of so many octets, and what follows it.
+/// A field of `len` octets, and what follows it.
 fn leaf(kind: FieldKind, len: usize, next: SectionPart) -> SectionPlan
     ensures { section_planned result ≡ leaf nothing_inside kind len next }
 {
@@ -64,7 +64,7 @@ fn leaf(kind: FieldKind, len: usize, next: SectionPart) -> SectionPlan
     }
 }
 
-/// A field of one octet, with which an attribute or a parameter of this code begins.
+/// A field of one octet, which begins an attribute or a parameter of this code.
 fn opening(kind: FieldKind, code: u8, next: SectionPart) -> SectionPlan
     ensures { section_planned result ≡ opening nothing_inside kind code next }
 {
@@ -92,7 +92,7 @@ fn parameter_length(code: u8, inner_len: u8) -> SectionPlan
     }
 }
 
-/// How many octets the length of an attribute with these flags has, and the length itself, which octets begin with.
+/// The width of the length field of an attribute with these flags, and the length that octets begin with.
 pub(crate) fn length_in(flags: u8, octets: &[u8]) -> (usize, u16)
     ensures width { result.0 ≡ length_width flags }
     ensures len { result.1 ≡ attribute_len flags octets.now }
@@ -120,7 +120,7 @@ fn attribute_length(ctx: &Context, flags: u8, kind: u8, octets: &[u8]) -> Sectio
     }
 }
 
-/// What stands next in these octets.
+/// The next field of these octets.
 #[inline(always)]
 pub(crate) fn section_plan(ctx: &Context, part: SectionPart, octets: &[u8]) -> SectionPlan
     ensures { section_planned result ≡ section_plan ctx.now part octets.now }

@@ -12,7 +12,7 @@ pub(crate) struct Sections<'a> {
     pub(crate) nlri: &'a [u8],
 }
 
-/// The octets behind a length of two octets, and what follows them.
+/// The octets after a length of two octets, and what follows them.
 pub(crate) fn split_behind(octets: &[u8]) -> Option<(&[u8], &[u8])>
     ensures value { option_map (λ x. (x.0.now, x.1.now)) result ≡ behind_two octets.now }
     ensures within { IfSome result (λ x. 2 + (length x.0.now + length x.1.now) ≤ length octets.now) }

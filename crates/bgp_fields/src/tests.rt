@@ -1,4 +1,4 @@
-//! Fields and places of messages that were written down by hand.
+//! Fields and spans of messages that were written by hand.
 
 use crate::field::Span;
 use crate::iter::FieldIter;
@@ -6,7 +6,7 @@ use crate::kind::FieldKind;
 use crate::place::reset_span;
 use bgp_open::Context;
 
-/// AS numbers of two octets, IPv4 alone.
+/// AS numbers of two octets, only IPv4.
 const TWO: Context = Context {
     internal: false,
     as4: false,
@@ -45,7 +45,7 @@ const WITHDRAWN: [u8; 29] = [
     24, 192, 0, 2, 33, 1, 0, 0,
 ];
 
-/// An UPDATE with a Total Path Attribute Length of 5, and 4 octets behind it.
+/// An UPDATE with a Total Path Attribute Length of 5, and 4 octets after it.
 const ROOM: [u8; 27] = [
     255, 255, 255, 255, 255, 255, 255, 255, 255, 255, 255, 255, 255, 255, 255, 255, 0, 27, 2, 0, 0,
     0, 5, 64, 1, 1, 0,

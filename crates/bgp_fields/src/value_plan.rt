@@ -1,4 +1,4 @@
-//! What stands next in the value of an attribute or of a parameter.
+//! The next field of the value of an attribute or of a parameter.
 
 ghost use Rattle.std.specs.Prelude.{◌≡◌, if◌then◌else◌};
 ghost use Rattle.bgp_fields.specs.Prelude.{is_segment, numbers_behind, behind_number, behind_family, hop_behind, hop_plan, reach_prefixes, capability_value, capability_behind, one, opening, value_plan, value_planned};
@@ -13,10 +13,10 @@ use crate::plan::ValuePlan;
 use bgp_numbers::{afi, capability, safi, segment};
 use bgp_open::Context;
 
-/// Nothing that can be read.
+/// A part that can't be read.
 const STUCK: ValuePart = ValuePart::All(FieldKind::Unread);
 
-/// A field of so many octets, and what follows it.
+/// A field of `len` octets, and what follows it.
 fn one(kind: FieldKind, len: usize, next: ValuePart) -> ValuePlan
     ensures { value_planned result ≡ one kind len next }
 {
@@ -28,7 +28,7 @@ fn one(kind: FieldKind, len: usize, next: ValuePart) -> ValuePlan
     }
 }
 
-/// The octets of an AS number.
+/// The width of an AS number.
 fn number_width(wide: bool) -> usize
     ensures { result ≡ number_width wide }
 {
@@ -46,7 +46,7 @@ fn is_segment(confederations: bool, code: u8) -> bool
     }
 }
 
-/// What follows the count of a segment in so many octets.
+/// What follows the count of a segment, where this number of octets is left.
 fn numbers_behind(wide: bool, confederations: bool, count: u8, left: usize) -> ValuePart
     ensures { result ≡ numbers_behind wide confederations count left }
 {
@@ -119,7 +119,7 @@ fn capability_value(code: u8, len: u8) -> ValuePart
     }
 }
 
-/// What follows the length of a capability in so many octets.
+/// What follows the length of a capability, where this number of octets is left.
 fn capability_behind(code: u8, len: u8, left: usize) -> ValuePart
     ensures { result ≡ capability_behind code len left }
 {
@@ -208,7 +208,7 @@ fn capability_length(code: u8, len: u8, left: usize) -> ValuePlan
     )
 }
 
-/// What stands next in these octets.
+/// The next field of these octets.
 #[inline(always)]
 pub(crate) fn value_plan(ctx: &Context, part: ValuePart, octets: &[u8]) -> ValuePlan
     ensures { value_planned result ≡ value_plan ctx.now part octets.now }

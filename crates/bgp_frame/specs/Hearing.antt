@@ -1,40 +1,51 @@
--- What one who holds octets of a stream makes of a piece of it, call by call and octet by octet: a decoder, or a session.
+-- Receivers of a stream, which hold octets of it: what they do on a piece, call by call and octet by octet. A decoder and a session are such.
 use Rattle.std.specs.Prelude.{◌≡◌, ◌<◌, ◌⊎◌, ℕ, ◌+◌, zero, suc, Bool, true, false, List, [], ◌∷◌, ◌++◌, length, map, take, drop, Option, None, Some, option_map, Result, Ok, Err}
 use Rattle.std.specs.List.{flat_map}
 use Rattle.bgp_frame.specs.declared.fault.HeadFault.{HeadFault}
-use Rattle.bgp_frame.specs.Content.{content_of}
-use Rattle.bgp_frame.specs.Frame.{Message, IsFrame, Waits}
-use Rattle.bgp_frame.specs.Framer.{IsHeld}
-use Rattle.bgp_frame.specs.Head.{head_of}
-use Rattle.bgp_frame.specs.Pull.{Pulls, IsToFeed}
-use Rattle.bgp_frame.specs.Takes.{Takes}
+use Rattle.bgp_frame.specs.Types.{Types}
+use Rattle.bgp_frame.specs.Kind.{plain}
+use Rattle.bgp_frame.specs.Content.{content_of_in}
+use Rattle.bgp_frame.specs.Frame.{Message, MessageIn, IsFrameIn, WaitsIn}
+use Rattle.bgp_frame.specs.Framer.{IsHeldIn}
+use Rattle.bgp_frame.specs.Head.{head_of_in}
+use Rattle.bgp_frame.specs.Pull.{PullsIn, IsToFeedIn}
+use Rattle.bgp_frame.specs.Takes.{TakesIn}
 
--- The octets that are held, and the same holder with others; whether octets are taken at all; what comes of a message, or of a header with a fault;
--- what is done on that, in order; and who is left behind it, with nothing held
-pub record Hearer (X Said Action : Type 0) : Type 0 where
+-- The types that are read; the octets that are held, and the same receiver with other octets; whether octets are consumed at all; the outcome of a
+-- message, or of a header with a fault; the actions on it, in order; and the receiver after it, with nothing held
+pub record Hearer (K X Said Action : Type 0) : Type 0 where
+  pub types : Types K
   pub held : X → List ℕ
   pub holding : X → List ℕ → X
   pub listens : X → Bool
-  pub comes : X → Result Message HeadFault → Said
+  pub comes : X → Result (MessageIn K) HeadFault → Said
   pub actions : Said → List Action
   pub behind : X → Said → X
 
--- octets are this message, or this fault of a header
+module _ {K : Type 0} (ty : Types K) where
+  -- octets are this message, or this fault of a header
+  abbrev pub IsContentIn : Result (MessageIn K) HeadFault → List ℕ → Type 0
+  IsContentIn (Ok m) b = IsFrameIn ty m b
+  IsContentIn (Err f) b = (length b ≡ 19) × (head_of_in ty b ≡ Err f)
+
+  -- octets are consumed until a message is whole, or a header has a fault; and none where the receiver consumes none at all
+  abbrev pub CountsFedIn : Bool → List ℕ → List ℕ → ℕ → Type 0
+  CountsFedIn true held piece n = TakesIn ty held piece n × (WaitsIn ty held → 0 < length piece → 0 < n)
+  CountsFedIn false held piece n = n ≡ 0
+
+-- the same by the types of RFC 4271
 abbrev pub IsContent : Result Message HeadFault → List ℕ → Type 0
-IsContent (Ok m) b = IsFrame m b
-IsContent (Err f) b = (length b ≡ 19) × (head_of b ≡ Err f)
+IsContent = IsContentIn plain
 
--- an octet is taken after another until a message is whole, or a header has a fault; and none where none are taken at all
 abbrev pub CountsFed : Bool → List ℕ → List ℕ → ℕ → Type 0
-CountsFed true held piece n = Takes held piece n × (Waits held → 0 < length piece → 0 < n)
-CountsFed false held piece n = n ≡ 0
+CountsFed = CountsFedIn plain
 
--- an octet is taken where octets are taken at all
+-- an octet is consumed where octets are consumed at all
 abbrev pub with_octet : Bool → List ℕ → ℕ → List ℕ
 with_octet true held octet = held ++ octet ∷ []
 with_octet false held octet = held
 
--- the actions, and who is left behind them
+-- the actions, and the receiver after them
 pub record Done (X Action : Type 0) : Type 0 where
   pub actions : List Action
   pub session : X
@@ -46,31 +57,31 @@ abbrev pub one_if_any : List ℕ → ℕ
 one_if_any [] = 0
 one_if_any (octet ∷ later) = 1
 
-module _ {X Said Action : Type 0} (h : Hearer X Said Action) where
+module _ {K X Said Action : Type 0} (h : Hearer K X Said Action) where
   -- ---- one call
 
-  -- the same, with so many octets of the piece held behind what was
+  -- the same, with n octets of the piece held after what was held
   abbrev pub behind_feed : X → List ℕ → ℕ → X
   behind_feed x piece n = h.holding x (h.held x ++ take n piece)
 
-  -- so many octets of the piece are taken
+  -- n octets of the piece are consumed
   abbrev pub IsFed : X → List ℕ → ℕ → X → Type 0
-  IsFed x piece n y = CountsFed (h.listens x) (h.held x) piece n × (y ≡ behind_feed x piece n)
+  IsFed x piece n y = CountsFedIn h.types (h.listens x) (h.held x) piece n × (y ≡ behind_feed x piece n)
 
-  -- what is held is a message or a header with a fault: it is taken out, and these actions are done
+  -- what is held is a message or a header with a fault: it is removed, and these actions are done
   pub record Judges (x : X) (actions : List Action) (y : X) : Type 0 where
     pub up : h.listens x ≡ true
-    pub what : Result Message HeadFault
-    pub is_held : IsContent what (h.held x)
+    pub what : Result (MessageIn K) HeadFault
+    pub is_held : IsContentIn h.types what (h.held x)
     pub does : actions ≡ h.actions (h.comes x what)
     pub leaves : y ≡ h.behind x (h.comes x what)
 
-  -- nothing is done where what is held waits for more
+  -- nothing is done where what is held is incomplete
   abbrev pub IsJudged : X → Option (List Action) → X → Type 0
-  IsJudged x None y = Waits (h.held x) × (y ≡ x)
+  IsJudged x None y = WaitsIn h.types (h.held x) × (y ≡ x)
   IsJudged x (Some actions) y = Judges x actions y
 
-  -- a pull where no octets are taken at all
+  -- a pull where no octets are consumed at all
   pub record PullsNothing (x : X) (n : ℕ) (y : X) : Type 0 where
     pub deaf : h.listens x ≡ false
     pub none : n ≡ 0
@@ -79,15 +90,15 @@ module _ {X Said Action : Type 0} (h : Hearer X Said Action) where
   -- a pull that feeds
   pub record PullsSome (x : X) (piece : List ℕ) (n : ℕ) (y : X) : Type 0 where
     pub up : h.listens x ≡ true
-    pub to_feed : IsToFeed (h.held x) piece
+    pub to_feed : IsToFeedIn h.types (h.held x) piece
     pub fed : IsFed x piece n y
 
-  -- a pull of what is held, or of what stands at the front of the piece: what is done is what would be done if all of it were held
+  -- a pull of what is held, or of what the piece begins with: the actions are those if all of it were held
   pub record PullsNext (x : X) (piece : List ℕ) (n : ℕ) (actions : List Action) (y : X) : Type 0 where
-    pub pulls : Pulls (h.held x) piece n
+    pub pulls : PullsIn h.types (h.held x) piece n
     pub next : Judges (behind_feed x piece n) actions y
 
-  -- how many octets of a piece a pull takes, and what it does on them or on what was held
+  -- the number of octets of a piece that a pull consumes, and the actions on them or on what was held
   abbrev pub IsPulled : X → List ℕ → ℕ → Option (List Action) → X → Type 0
   IsPulled x piece n None y = PullsNothing x n y ⊎ PullsSome x piece n y
   IsPulled x piece n (Some actions) y = PullsNext x piece n actions y
@@ -96,20 +107,20 @@ module _ {X Said Action : Type 0} (h : Hearer X Said Action) where
   IsLeft x None y = y ≡ x
   IsLeft x (Some actions) y = Judges x actions y
 
-  -- what every call does: what `feed` takes of the piece is taken, and then what is held is judged, where something is done
+  -- what every call does: it consumes what `feed` consumes, and then what is held is judged, where there are actions
   pub record IsFedAndJudged (x : X) (piece : List ℕ) (n : ℕ) (found : Option (List Action)) (y : X) : Type 0 where
     pub fed : IsFed x piece n (behind_feed x piece n)
     pub next : IsLeft (behind_feed x piece n) found y
 
-  -- a feed, with a look behind it at what is held
+  -- a feed, followed by a look at what is held
   abbrev pub by_feed : X → List ℕ → ℕ → Option (List Action) → X → Type 0
   by_feed x piece n found y = IsFed x piece n (behind_feed x piece n) × IsJudged (behind_feed x piece n) found y
 
   -- ---- octet by octet
 
-  -- what comes of what is held, where it is whole
+  -- the outcome of what is held, where it is whole
   abbrev pub judged : X → Option Said
-  judged x = option_map (h.comes x) (content_of (h.held x))
+  judged x = option_map (h.comes x) (content_of_in h.types (h.held x))
 
   abbrev pub done_by : X → Option Said → Done X Action
   done_by x None = record { actions = []; session = x }
@@ -121,33 +132,33 @@ module _ {X Said Action : Type 0} (h : Hearer X Said Action) where
   abbrev pub by_octet : X → ℕ → Done X Action
   by_octet x octet = settled (h.holding x (with_octet (h.listens x) (h.held x) octet))
 
-  -- octet by octet, and what is held is judged behind each
+  -- octet by octet, and what is held is judged after each
   abbrev pub by_octets : X → List ℕ → Done X Action
   by_octets x [] = record { actions = []; session = x }
   by_octets x (octet ∷ later) = behind (by_octet x octet).actions (by_octets (by_octet x octet).session later)
 
-  -- nothing is left to do, and nothing is held where no octets are taken
+  -- nothing is left to do, and nothing is held where no octets are consumed
   pub record IsAtRest (x : X) : Type 0 where
-    pub can_hold : IsHeld (h.held x)
+    pub can_hold : IsHeldIn h.types (h.held x)
     pub nothing_to_do : judged x ≡ None
     pub holds_none : h.listens x ≡ false → h.held x ≡ []
 
-  -- so it is between two calls
+  -- this holds between two calls
   pub record IsReady (x : X) : Type 0 where
-    pub can_hold : IsHeld (h.held x)
+    pub can_hold : IsHeldIn h.types (h.held x)
     pub holds_none : h.listens x ≡ false → h.held x ≡ []
 
-  -- what is left to do: what is held is judged, and then the octets come
+  -- what is left to do: what is held is judged, and then the octets are received
   abbrev pub left_to_do : X → List ℕ → Done X Action
   left_to_do x rest = behind (settled x).actions (by_octets (settled x).session rest)
 
-  -- each call makes this less: it takes octets, or judges what is held
+  -- each call makes this less: it consumes octets, or judges what is held
   abbrev pub weight : X → List ℕ → ℕ
   weight x rest = length rest + length rest + one_if_any (h.held x)
 
--- ---- call behind call
+-- ---- call after call
 
--- a way to hear a piece: so many octets of it are taken; these actions are to be done, where something was whole; and this one is left
+-- a way to receive a piece: the number of octets consumed; the actions, where something was whole; and the receiver after it
 abbrev pub Way : Type 0 → Type 0 → Type 1
 Way X Action = X → List ℕ → ℕ → Option (List Action) → X → Type 0
 
@@ -155,7 +166,7 @@ abbrev pub given : {Action : Type 0} → Option (List Action) → List Action
 given None = []
 given (Some actions) = actions
 
--- a piece, and how many calls hear it
+-- a piece, and the number of calls that receive it
 pub record Run : Type 0 where
   pub octets : List ℕ
   pub calls : ℕ
@@ -164,7 +175,7 @@ abbrev pub all_octets : List Run → List ℕ
 all_octets runs = flat_map (λ r. r.octets) runs
 
 module _ {X Action : Type 0} (way : Way X Action) where
-  -- a call takes octets of the piece, and the rest of it comes later
+  -- a call consumes octets of the piece, and later calls the rest
   pub record CallsOn (later : List ℕ → X → List Action → X → Type 0) (piece : List ℕ) (x : X) (actions : List Action) (y : X) : Type 0 where
     pub count : ℕ
     pub found : Option (List Action)
@@ -174,12 +185,12 @@ module _ {X Action : Type 0} (way : Way X Action) where
     pub goes_on : later (drop count piece) between rest y
     pub in_order : actions ≡ given found ++ rest
 
-  -- so many calls, and one behind them that takes nothing and finds nothing: what is left of the piece then is gone
+  -- n calls, and a last one that consumes nothing and finds nothing: the rest of the piece is dropped
   abbrev pub Calls : ℕ → List ℕ → X → List Action → X → Type 0
   Calls zero piece x actions y = way x piece 0 None y × (actions ≡ [])
   Calls (suc n) piece x actions y = CallsOn (Calls n) piece x actions y
 
-  -- a piece is heard, and the others later
+  -- a piece is received, and the others later
   pub record RunsOn (later : X → List Action → X → Type 0) (run : Run) (x : X) (actions : List Action) (y : X) : Type 0 where
     pub first : List Action
     pub between : X
@@ -188,12 +199,12 @@ module _ {X Action : Type 0} (way : Way X Action) where
     pub goes_on : later between rest y
     pub in_order : actions ≡ first ++ rest
 
-  -- these pieces are heard, one behind the other
+  -- these pieces are received, one after the other
   abbrev pub Runs : List Run → X → List Action → X → Type 0
   Runs [] x actions y = (actions ≡ []) × (y ≡ x)
   Runs (run ∷ later) x actions y = RunsOn (Runs later) run x actions y
 
-  -- octets that come in these pieces can be heard in some number of calls
+  -- octets that come in these pieces can be received by some number of calls
   pub record CanBeHeard (x : X) (pieces : List (List ℕ)) : Type 0 where
     pub runs : List Run
     pub are : map (λ r. r.octets) runs ≡ pieces

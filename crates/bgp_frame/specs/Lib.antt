@@ -1,5 +1,7 @@
 -- Frames, their headers and streams of them.
+pub mod Types
 pub mod Kind
+pub mod WideKind
 pub mod Notification
 pub mod ShortNotification
 pub mod Head
@@ -12,3 +14,4 @@ pub mod Pull
 pub mod Stream
 pub mod Hearing
 pub mod Prelude
+pub mod steps

@@ -21,14 +21,14 @@ impl HeadFault {
     ghost use Rattle.bgp_frame.specs.Head.{head_notification};
     ghost use Rattle.bgp_frame.specs.ShortNotification.{short_value};
 
-    /// The answer to the fault: code 1 (Message Header Error), the subcode, and as information the field that is at fault.
+    /// The NOTIFICATION for the fault: code 1 (Message Header Error), the subcode, and as data the field that is at fault.
     pub fn notification(self) -> Notification
         ensures { result ≡ head_notification self }
     {
         self.answer().view().own()
     }
 
-    /// The same, in some words.
+    /// The same, as a few machine words.
     pub fn answer(self) -> ShortNotification
         ensures { short_value result ≡ head_notification self }
     {

@@ -2,7 +2,7 @@
 
 use bgp_numbers::message;
 
-/// What a message is, by the octet of its type (RFC 4271, section 4.1).
+/// The kind of a message, by its type octet (RFC 4271, section 4.1).
 #[derive(Clone, Copy, Debug, PartialEq, Eq, Hash)]
 pub enum Kind {
     /// OPEN, type 1: 29 octets or more (RFC 4271, section 4.2).
@@ -60,4 +60,13 @@ impl Kind {
             Kind::Open | Kind::Update | Kind::Notification => 4096,
         }
     }
+}
+
+/// The kinds of RFC 4271, and ROUTE-REFRESH.
+#[derive(Clone, Copy, Debug, PartialEq, Eq)]
+pub enum WideKind {
+    /// One of RFC 4271.
+    Base(Kind),
+    /// ROUTE-REFRESH, type 5 (RFC 2918, section 3).
+    Refresh,
 }

@@ -1,10 +1,10 @@
-//! What a NOTIFICATION says.
+//! NOTIFICATIONs.
 
 ghost use Rattle.std.specs.Prelude.{◌≤◌, length};
 
 use arrayvec::ArrayVec;
 
-/// A NOTIFICATION (RFC 4271, section 4.5): an error's code and subcode, and at most 4075 octets of information.
+/// A NOTIFICATION (RFC 4271, section 4.5): an error's code and subcode, and at most 4075 octets of data.
 #[derive(Drop, PartialEq, Eq)]
 pub struct Notification {
     /// The error code.
@@ -18,7 +18,7 @@ pub struct Notification {
 impl Notification {
     ghost use Rattle.std.specs.Prelude.{◌≡◌};
 
-    /// A notification with this information, of at most 4075 octets.
+    /// A NOTIFICATION with this data, of at most 4075 octets.
     pub fn new(code: u8, subcode: u8, info: &[u8]) -> Notification
         requires { length info.now ≤ 4075 }
         ensures { result ≡ record { code = code; subcode = subcode; info = record { items = info.now } } }
@@ -32,7 +32,7 @@ impl Notification {
         }
     }
 
-    /// An equal notification. It takes no memory.
+    /// An equal NOTIFICATION. It allocates nothing.
     pub fn copy(&self) -> Notification
         ensures { result ≡ self.now }
     {
@@ -40,7 +40,7 @@ impl Notification {
     }
 }
 
-/// A NOTIFICATION whose information still lies in the octets that are at fault: a few words in place of 4 KB.
+/// A NOTIFICATION whose data borrows the octets that are at fault: a few words instead of 4 KB.
 #[derive(Clone, Copy)]
 pub struct NotificationView<'a> {
     /// The error code.
@@ -57,7 +57,7 @@ impl NotificationView<'_> {
     ghost use Rattle.std.specs.Prelude.{◌≡◌};
     ghost use Rattle.bgp_frame.specs.Notification.{notification_of_view};
 
-    /// The notification, with a copy of its information.
+    /// The NOTIFICATION, with a copy of its data.
     pub fn own(self) -> Notification
         ensures { result ≡ notification_of_view self.entry }
     {

@@ -1,11 +1,10 @@
-//! A NOTIFICATION that fits some words.
+//! A NOTIFICATION of a few machine words.
 
 ghost use Rattle.std.specs.Prelude.{◌≤◌};
 
 use crate::notification::NotificationView;
 
-/// A NOTIFICATION with at most two octets of information of its own, as a header's fault and a message out of place have: a few words in place of
-/// 4 KB.
+/// A NOTIFICATION with at most two octets of data, as a header's fault and a message that the state doesn't allow have: a few words instead of 4 KB.
 #[derive(Clone, Copy)]
 pub struct ShortNotification {
     code: u8,
@@ -20,7 +19,7 @@ impl ShortNotification {
     ghost use Rattle.bgp_frame.specs.Notification.{notification_of_view};
     ghost use Rattle.bgp_frame.specs.ShortNotification.{notification_with, short_value};
 
-    /// A NOTIFICATION without information.
+    /// A NOTIFICATION without data.
     pub fn plain(code: u8, subcode: u8) -> ShortNotification
         ensures { short_value result ≡ notification_with code subcode [] }
     {
@@ -32,7 +31,7 @@ impl ShortNotification {
         }
     }
 
-    /// One whose information is an octet.
+    /// One whose data is an octet.
     pub fn with_octet(code: u8, subcode: u8, octet: u8) -> ShortNotification
         ensures { short_value result ≡ notification_with code subcode (octet ∷ []) }
     {
@@ -44,7 +43,7 @@ impl ShortNotification {
         }
     }
 
-    /// One whose information is two octets.
+    /// One whose data is two octets.
     pub fn with_two(code: u8, subcode: u8, octets: [u8; 2]) -> ShortNotification
         ensures { short_value result ≡ notification_with code subcode octets }
     {
@@ -56,7 +55,7 @@ impl ShortNotification {
         }
     }
 
-    /// The same, with its information borrowed.
+    /// The same, with its data borrowed.
     pub fn view(&self) -> NotificationView<'_>
         ensures { notification_of_view result ≡ short_value self.now }
     {

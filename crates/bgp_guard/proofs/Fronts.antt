@@ -3,27 +3,29 @@ use Rattle.bgp_guard.proofs.Prelude.{◌≡◌, ℕ, Bool, true, List, [], ◌�
 use Rattle.bgp_guard.proofs.Prelude.{all_held, Rules, Sight, listens_in, CameFrom, CameIn, Counts, IsHeardBy, heard, heard_as, holding, octet_by, by_octet}
 use Rattle.bgp_guard.proofs.Prelude.{by_octets, IsSettled}
 use Rattle.bgp_guard.specs.declared.came.Came.{Came}
+use Rattle.bgp_frame.specs.Kind.{plain}
+use Rattle.bgp_frame.specs.steps.AreTypes.{plain-are}
 
 module _ (rules : Rules) (silent : Bool) (s : Sight) (up : listens_in s ≡ true) where
   takes_one : (held : List ℕ) (octet : ℕ) → by_octet rules silent (holding s held) octet ≡ heard rules silent (holding s (held ++ octet ∷ []))
   takes_one held octet = ap (λ (b : Bool). octet_by b rules silent (holding s held) octet) up
 
   waits_on : (held : List ℕ) → Waits held → heard rules silent (holding s held) ≡ holding s held
-  waits_on held waits = ap (heard_as rules silent (holding s held)) (content_of-waits held waits)
+  waits_on held waits = ap (heard_as rules silent (holding s held)) (content_of-waits plain plain-are held waits)
 
-  -- so it is for octets that can all be held
+  -- for octets that can all be held
   pub fed_at_once : (front : List ℕ) → Waits s.this.held → IsHeld (s.this.held ++ front)
       → by_octets rules silent s front ≡ heard rules silent (holding s (s.this.held ++ front))
   fed_at_once [] waits is = sym (waits_on s.this.held waits) ∙ ap (λ (h : List ℕ). heard rules silent (holding s h)) (sym (append-nil s.this.held))
   fed_at_once (octet ∷ front) waits is =
       let whole = s.this.held ++ octet ∷ front in
-      all_held (λ held later. by_octets rules silent (holding s held) later ≡ heard rules silent (holding s whole)) whole
+      all_held plain plain-are (λ held later. by_octets rules silent (holding s held) later ≡ heard rules silent (holding s whole)) whole
       (λ held octet joined. takes_one held octet ∙ ap (λ (h : List ℕ). heard rules silent (holding s h)) joined)
       (λ held octet next later more_waits goes.
       ap (λ (x : Sight). by_octets rules silent x (next ∷ later)) (takes_one held octet ∙ waits_on (held ++ octet ∷ []) more_waits) ∙ goes)
       is s.this.held octet front refl
 
--- what is fed is settled, so the octets are heard
+-- what is fed is judged, so the octets are received
 module _ (rules : Rules) (silent : Bool) (s : Sight) (piece : List ℕ) (n : ℕ) (came : Came) (new : Sight) where
   pub fed_is_heard : (fed : List ℕ) → listens_in s ≡ true → Waits s.this.held → Counts true s.this.held piece n → fed ≡ s.this.held ++ take n piece → IsHeld fed
       → IsSettled rules silent (holding s fed) came new → IsHeardBy rules silent s piece n came new

@@ -1,4 +1,4 @@
--- An octet of a side keeps both directions handed over.
+-- An octet of a side keeps the invariant of both directions.
 use Rattle.bgp_guard.proofs.Prelude.{◌≡◌, ℕ, zero, suc, ◌+◌, ◌<◌, Bool, true, false, cond, List, [], ◌∷◌, ◌++◌, length, Option, Some, None, option_map}
 use Rattle.bgp_guard.proofs.Prelude.{Result, Ok, Err, refl, sym, ap, subst, ◌∙◌, arith, inl, inr, and_parts, cases_lt, not-false, ◌&&◌, not, is_some}
 use Rattle.bgp_guard.proofs.Prelude.{true≢false, append-nil, length-append, AreOctets, has_octet, HeadFault, Kind, IsFrame, Waits, IsHeld, head_notification}
@@ -11,10 +11,12 @@ use Rattle.bgp_frame.specs.Frame as frame
 use Rattle.bgp_frame.proofs.FrameLemmas.{wanted-append, wanted-bounds}
 use Rattle.bgp_guard.proofs.Lanes.{Alive, alive_ends, alive_held, alive_on, alive_open, kept_push, notified, open_same, opened_push, place_same, refit}
 use Rattle.bgp_guard.proofs.Passed.{open_by}
+use Rattle.bgp_frame.specs.Kind.{plain}
+use Rattle.bgp_frame.specs.steps.AreTypes.{plain-are}
 
 -- ---- what is held
 
--- one octet more can be held
+-- one more octet can be held
 pub held_more : (held : List ℕ) (octet : ℕ) → IsHeld held → Waits held → octet < 256 → IsHeld (held ++ octet ∷ [])
 held_more held octet is waits small =
     let all : length (held ++ octet ∷ []) ≡ length held + 1 = length-append held (octet ∷ []) in
@@ -22,8 +24,8 @@ held_more held octet is waits small =
       octets = AreOctets-append held (octet ∷ []) is.octets (one small);
       within =
           elim (cases_lt (length held) 19) [
-            | inl short ↦ let bounds = wanted-bounds (held ++ octet ∷ []) in omega (arith, bounds.0, all, short)
-            | inr long ↦ let e = wanted-append held (octet ∷ []) long in omega (arith, all, e, waits)
+            | inl short ↦ let bounds = wanted-bounds plain plain-are (held ++ octet ∷ []) in omega (arith, bounds.0, all, short)
+            | inr long ↦ let e = wanted-append plain plain-are held (octet ∷ []) long in omega (arith, all, e, waits)
           ];
     }
   where
@@ -43,7 +45,7 @@ pub record Goes (rules theirs : Rules) (silent others : Bool) (s : Seen) : Type 
 
 -- ---- an octet
 
--- a message in its place is none that is out of it
+-- a message that is in place isn't out of place
 in_place : (b : Bool) (subcode : ℕ) → (let found : Option ℕ = cond b (Some subcode) None in found ≡ None) → b ≡ false
 in_place true subcode e = absurd cc
 in_place false subcode e = refl
@@ -93,7 +95,7 @@ module _ (rules theirs : Rules) (silent others : Bool) (n : ℕ) (this other : H
           other = refit theirs others other.held other.peer this.peer (Some (said_by p)) o.came t.given this.way (ap is_some none) b;
         })
 
-    -- behind both OPENs
+    -- after both OPENs
     on_goes : (k : Kind) (body : List ℕ) → (k ≡ Kind.Open → ⊥) → (k ≡ Kind.Notification → ⊥) → IsFrame (record { kind = k; body = body }) (this.held ++ octet ∷ []) → both_open free ≡ true
         → cleaned ctx (has_octet rules.drops) (refusal rules ctx this.peer) true (record { kind = k; body = body }) ≡ Ok m
         → Alive rules silent [] this.peer other.peer (t.came ++ octet ∷ []) o.given (other.way ++ flat_map (canonical ctx) (said_as silent k m))
@@ -153,11 +155,11 @@ module _ (rules theirs : Rules) (silent others : Bool) (n : ℕ) (this other : H
   by_content : octet < 256 → (c : Option (Result frame.Message HeadFault)) → content_of (this.held ++ octet ∷ []) ≡ c
       → Goes rules theirs silent others (seen (heard_as rules silent (holding sight (this.held ++ octet ∷ [])) c))
   by_content small None e = record {
-    this = alive_held rules silent octet this.held this.peer other.peer t.came o.given other.way a (held_more this.held octet a.can_hold a.waits small) (none_waits (λ c. c) (this.held ++ octet ∷ []) (ap (option_map (λ c. c)) e));
+    this = alive_held rules silent octet this.held this.peer other.peer t.came o.given other.way a (held_more this.held octet a.can_hold a.waits small) (none_waits plain plain-are (λ c. c) (this.held ++ octet ∷ []) (ap (option_map (λ c. c)) e));
     other = b;
   }
   by_content small (Some (Ok m)) e =
-      by_place m (content_of-message m (this.held ++ octet ∷ []) (held_more this.held octet a.can_hold a.waits small) e) (misplaced free m.kind) refl
+      by_place m (content_of-message plain plain-are m (this.held ++ octet ∷ []) (held_more this.held octet a.can_hold a.waits small) e) (misplaced free m.kind) refl
   by_content small (Some (Err fault)) e = answered_goes (reset_by (head_notification fault))
 
   pub heard_goes : octet < 256 → Goes rules theirs silent others (seen (heard rules silent (holding sight (this.held ++ octet ∷ []))))

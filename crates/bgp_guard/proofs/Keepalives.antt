@@ -1,11 +1,11 @@
--- Messages with KEEPALIVEs of the guard's own between.
+-- Messages interleaved with KEEPALIVEs of the guard's own.
 use Rattle.bgp_guard.proofs.Prelude.{List, [], ◌∷◌, ◌++◌, refl, sym, ap, subst, inl, inr, Message, WithKeepalives}
 
 pub with_none : (said : List Message) → WithKeepalives said said
 with_none [] = refl
 with_none (n ∷ later) = inl (record { later = later; is = refl; rest = with_none later })
 
--- more of both
+-- more messages in both lists
 pub with_more : (handed said more : List Message) → WithKeepalives handed said → WithKeepalives (handed ++ more) (said ++ more)
 with_more [] said more none = subst (λ (xs : List Message). WithKeepalives more (xs ++ more)) (sym none) (with_none more)
 with_more (n ∷ later) said more (inl h) =

@@ -1,4 +1,4 @@
--- The messages of a side, as they are handed on.
+-- The messages of a side, as they are passed on.
 use Rattle.bgp_guard.proofs.Prelude.{◌≡◌, ℕ, Bool, true, false, List, [], ◌∷◌, ◌++◌, take, drop, Option, Some, None, Result, Ok, refl, sym, ap, subst}
 use Rattle.bgp_guard.proofs.Prelude.{◌∙◌, append_assoc, inl, inr, flat_map, AllByRecursion, and_parts, take-append-drop, ◌&&◌, is_some, true≢false}
 use Rattle.bgp_guard.proofs.Prelude.{append-nil, has_octet, Row, Kind, IsFrame, Waits, IsHeld, Notification, IsHeld_nil, Context, Open, Said, said_by}
@@ -11,10 +11,12 @@ use Rattle.bgp_wire.proofs.Rows.{Row-push}
 use Rattle.bgp_frame.specs.Frame as frame
 use Rattle.bgp_update.proofs.Lists.{all-append}
 use Rattle.bgp_guard.proofs.Keepalives.{with_more, with_one}
+use Rattle.bgp_frame.specs.Kind.{plain}
+use Rattle.bgp_frame.specs.steps.AreTypes.{plain-are}
 
--- ---- what is handed on of a message depends on little
+-- ---- what the passed-on form of a message depends on
 
--- of an OPEN on no context, and on no limits
+-- that of an OPEN on no context, and on no limits
 opens_same : (drops : ℕ → Bool) (refuses others : Update → Bool) (first : Bool) (r : Result Open OpenFault)
     → cleaned_outcome drops refuses first None (of_reading r) ≡ cleaned_outcome drops others first None (of_reading r)
 opens_same drops refuses others first (Ok o) = refl
@@ -36,7 +38,7 @@ verdict_same drops refuses family first (Verdict.Take u notes) = refl
 verdict_same drops refuses family first (Verdict.Withdraw routes notes) = refl
 verdict_same drops refuses family first (Verdict.Reset n) = refl
 
--- of another message not on its place in the stream
+-- that of another message not on its position in the stream
 pub place_same : (ctx : Context) (drops : ℕ → Bool) (refuses : Update → Bool) (first : Bool) (k : Kind) (body : List ℕ) → (k ≡ Kind.Open → ⊥)
     → cleaned ctx drops refuses first (record { kind = k; body = body }) ≡ cleaned ctx drops refuses true (record { kind = k; body = body })
 place_same ctx drops refuses first Kind.Open body not = absurd (not refl)
@@ -48,7 +50,7 @@ module _ (rules : Rules) (silent : Bool) where
   abbrev said_octets : Context → Kind → List Message → List ℕ
   said_octets ctx kind n = flat_map (canonical ctx) (said_as silent kind n)
 
-  -- ---- each message is cleaned, by what the OPEN of the side says, and these go on
+  -- ---- each message is cleaned, by what the OPEN of the side says, and these are passed on
 
   module _ (kept : Option Said) where
     pub record HandsThen (ctx : Context) (first : Bool) (m : frame.Message) (later : List Message → Type 0) (said : List Message) : Type 0 where
@@ -88,7 +90,7 @@ module _ (rules : Rules) (silent : Bool) where
       goes_on = hands_push ctx false later h.rest m n h.goes_on is;
     }
 
-    -- ---- octets that were handed on: the messages, with KEEPALIVEs of the guard's own between
+    -- ---- octets that were passed on: the messages, interleaved with KEEPALIVEs of the guard's own
 
     pub record Given (ctx : Context) (ms : List frame.Message) (octets : List ℕ) : Type 0 where
       pub said : List Message
@@ -110,7 +112,7 @@ module _ (rules : Rules) (silent : Bool) where
       is = ap (λ (x : List ℕ). x ++ flat_map (canonical ctx) more) is ∙ sym (flat_map-append (canonical ctx) handed more);
     }
 
-    -- one message more
+    -- one more message
     pub given_push : (ctx : Context) (ms : List frame.Message) (octets : List ℕ) (m : frame.Message) (n : List Message) → Given ctx ms octets
         → ((at : Bool) → cleaned ctx (has_octet rules.drops) (refusal rules ctx kept) at m ≡ Ok n) → Given ctx (ms ++ m ∷ []) (octets ++ said_octets ctx m.kind n)
     given_push ctx ms octets m n g is =
@@ -143,7 +145,7 @@ module _ (rules : Rules) (silent : Bool) where
           ∙ sym (flat_map-append (canonical ctx) g.handed (Message.Keepalive ∷ []));
     }
 
-  -- where nothing came, nothing depends on the OPEN
+  -- where nothing was received, nothing depends on the OPEN
   given_nothing : (one other : Option Said) (ctx : Context) (octets : List ℕ) → Given one ctx [] octets → Given other ctx [] octets
   given_nothing one other ctx octets g = record { said = g.said; hands = g.hands; handed = g.handed; between = g.between; is = g.is }
 
@@ -153,7 +155,7 @@ module _ (rules : Rules) (silent : Bool) where
   abbrev pub Fits : Option Said → Option Said → Context → Type 0
   Fits kept others ctx = (is_some kept && is_some others) ≡ true → ctx ≡ agreed kept others
 
-  -- nothing came before the OPEN
+  -- the OPEN is the first message
   pub record Opens (messages : List frame.Message) (said : Said) : Type 0 where
     pub first : frame.Message
     pub later : List frame.Message
@@ -206,7 +208,7 @@ module _ (rules : Rules) (silent : Bool) where
       none = a.none;
     }
 
-    -- it ends with what the guard has to say, or nothing, on the way: and some of that may be lost
+    -- it ends with the guard's NOTIFICATION, or nothing, in the queue: and some of that may be lost
     pub alive_ends : (more now sent gone : List ℕ) (own : Option Notification) → now ≡ came ++ more → sent ++ gone ≡ way ++ own_octets own
         → IsHandedOver rules silent ctx kept now given sent
     alive_ends more now sent gone own grown is = record {
@@ -227,7 +229,7 @@ module _ (rules : Rules) (silent : Bool) where
       alone = inr a.none;
     }
 
-    -- what was whole behind what is held is handed on
+    -- a message that became whole is passed on
     module _ (octet : ℕ) (m : frame.Message) (n : List Message) (f : IsFrame m (held ++ octet ∷ [])) where
       abbrev grown : List ℕ
       grown = held ++ octet ∷ []
@@ -247,7 +249,7 @@ module _ (rules : Rules) (silent : Bool) where
       regrouped : (c : Context) → (given ++ way) ++ said_octets c m.kind n ≡ given ++ sent c
       regrouped c = append_assoc given way (said_octets c m.kind n)
 
-      -- behind both OPENs
+      -- after both OPENs
       pub pushed : ((at : Bool) → cleaned ctx (has_octet rules.drops) (refusal rules ctx kept) at m ≡ Ok n) → Given kept ctx (a.messages ++ m ∷ []) (given ++ sent ctx)
       pushed is = subst (Given kept ctx (a.messages ++ m ∷ [])) (regrouped ctx) (given_push kept ctx a.messages (given ++ way) m n all is)
 
@@ -258,8 +260,8 @@ module _ (rules : Rules) (silent : Bool) where
         row = a.row ++ grown;
         whole = whole_row;
         frames = frames_row;
-        can_hold = IsHeld_nil;
-        waits = nothing_waits;
+        can_hold = IsHeld_nil plain plain-are;
+        waits = nothing_waits plain plain-are;
         opened = opened;
         hands = λ c fits. subst (λ (x : Context). Given kept x (a.messages ++ m ∷ []) (given ++ sent ctx)) (sym (fits both)) (pushed is);
         none = all-append IsNoNotification a.messages (m ∷ []) a.none (silent_kind, tt);
@@ -315,14 +317,14 @@ module _ (rules : Rules) (silent : Bool) where
       row = a.row ++ (held ++ octet ∷ []);
       whole = whole_row held None others came given way a octet m (Message.Open o ∷ []) f;
       frames = frames_row held None others came given way a octet m (Message.Open o ∷ []) f;
-      can_hold = IsHeld_nil;
-      waits = nothing_waits;
+      can_hold = IsHeld_nil plain plain-are;
+      waits = nothing_waits plain plain-are;
       opened = record { first = m; later = []; is = alone; value = o; handed = handed; says = refl };
       hands = λ d fits. first_given c d;
       none = all-append IsNoNotification a.messages (m ∷ []) a.none (λ e. absurd cc, tt);
     }
 
-  -- as the other side's OPEN comes
+  -- as the other side's OPEN arrives
   pub refit : (held : List ℕ) (kept others now : Option Said) (came given way : List ℕ) → is_some others ≡ false → Alive held kept others came given way → Alive held kept now came given way
   refit held kept others now came given way not a = record {
     messages = a.messages;
@@ -336,7 +338,7 @@ module _ (rules : Rules) (silent : Bool) where
     none = a.none;
   }
 
-  -- ---- more messages behind the OPEN
+  -- ---- more messages after the OPEN
 
   pub opened_push : (messages : List frame.Message) (m : frame.Message) (kept : Option Said) → is_some kept ≡ true → OpenedBy messages kept → OpenedBy (messages ++ m ∷ []) kept
   opened_push messages m None e o = absurd (true≢false (sym e))
@@ -360,7 +362,7 @@ module _ (rules : Rules) (silent : Bool) where
     says = o.says;
   }
 
-  -- ---- what is sent, and what is taken
+  -- ---- what is sent, and what is consumed
 
   moved : (n : ℕ) (given way : List ℕ) → (given ++ take n way) ++ drop n way ≡ given ++ way
   moved n given way = append_assoc given (take n way) (drop n way) ∙ ap (λ (x : List ℕ). given ++ x) (take-append-drop n way)
@@ -399,7 +401,7 @@ module _ (rules : Rules) (silent : Bool) where
     alone = h.alone;
   }
 
-  -- what was on its way is lost
+  -- what was queued is lost
   pub over_lost : (ctx : Context) (kept : Option Said) (came given way : List ℕ) → IsHandedOver rules silent ctx kept came given way → IsHandedOver rules silent ctx kept came given []
   over_lost ctx kept came given way h = record {
     messages = h.messages;
@@ -435,7 +437,7 @@ module _ (rules : Rules) (silent : Bool) where
       by ctx true g = given_own kept ctx a.messages (given ++ way) g
       by ctx false g = subst (Given kept ctx a.messages) (sym (append-nil (given ++ way))) g
 
-  -- an octet that makes nothing whole
+  -- an octet that completes no message
   pub alive_held : (octet : ℕ) (held : List ℕ) (kept others : Option Said) (came given way : List ℕ) → Alive held kept others came given way → IsHeld (held ++ octet ∷ [])
       → Waits (held ++ octet ∷ []) → Alive (held ++ octet ∷ []) kept others (came ++ octet ∷ []) given way
   alive_held octet held kept others came given way a is waits = record {

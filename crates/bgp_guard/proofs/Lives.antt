@@ -1,4 +1,4 @@
--- Whatever happens, both directions stay handed over.
+-- Whatever happens, the invariant of both directions is kept.
 use Rattle.bgp_guard.proofs.Prelude.{◌≡◌, ℕ, suc, Bool, true, false, List, [], ◌∷◌, ◌++◌, Option, Some, None, refl, sym, ◌∙◌, AllByRecursion, and_parts, ◌&&◌, not, nat_lt}
 use Rattle.bgp_guard.proofs.Prelude.{if◌then◌else◌, true≢false, append-nil, IsHeld_nil, Rules, Side, Stage, expired, late_answer, notice, rejected, shutdown, Half, runs, agreed, Notification, Said}
 use Rattle.bgp_guard.proofs.Prelude.{aged, closed_if, cut_if, farewell, is_due, keeps_alive, kept_if, stopped_if, is_waiting, late, ticked_in, waited, IsHandedOver, HandsOn, HandsOver, IsOctetIn, Event, Stood, Unreached}
@@ -6,6 +6,8 @@ use Rattle.bgp_guard.proofs.Prelude.{Octet, Closed, Sent, Stalled, Stopped, Tick
 use Rattle.bgp_guard.proofs.Prelude.{OPEN_SECONDS, nothing_waits, rules_of}
 use Rattle.bgp_guard.proofs.Hears.{Goes, Lane, octet_goes}
 use Rattle.bgp_guard.proofs.Lanes.{Alive, alive_all, alive_ends, alive_own, alive_sent, over_lost, over_sent}
+use Rattle.bgp_frame.specs.Kind.{plain}
+use Rattle.bgp_frame.specs.steps.AreTypes.{plain-are}
 
 module _ (rules theirs : Rules) (silent others : Bool) (this other : Half) (t o : Trail) where
   abbrev seen : Stage → Seen
@@ -159,8 +161,8 @@ born_lane rules silent = record {
   row = [];
   whole = refl;
   frames = refl;
-  can_hold = IsHeld_nil;
-  waits = nothing_waits;
+  can_hold = IsHeld_nil plain plain-are;
+  waits = nothing_waits plain plain-are;
   opened = refl;
   hands = λ ctx fits. record { said = []; hands = refl; handed = []; between = refl; is = refl };
   none = tt;

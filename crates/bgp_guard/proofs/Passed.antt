@@ -1,4 +1,4 @@
--- What is handed on of a message, as octets.
+-- What is passed on of a message, as octets.
 use Rattle.bgp_guard.proofs.Prelude.{◌≡◌, ℕ, ◌≤◌, Bool, true, false, cond, List, [], ◌∷◌, length, drop, Option, Some, None, Result, Ok, Err, refl, sym, ap, subst}
 use Rattle.bgp_guard.proofs.Prelude.{◌∙◌, arith, append-nil, length-append, AllByRecursion, AreOctets, Kind, IsFrame, Context, Open, open_notification, reading_of, Notification}
 use Rattle.bgp_guard.proofs.Prelude.{Verdict, verdict_of, Message, Outcome, of_open_fault, of_reading, of_verdict, canonical}
@@ -13,7 +13,7 @@ use Rattle.bgp_clean.specs.declared.cleaned.Cleaned.{Cleaned}
 use Rattle.bgp_clean.specs.declared.cleaned.Cleaned.TheVariants.{HandedOn, Ends}
 use Rattle.bgp_clean.proofs.Handed.{handed-clean, ok-same, not_ok}
 
--- ---- an OPEN that is handed on is an OPEN, and is read as it
+-- ---- an OPEN that is passed on is an OPEN, and is read as the same
 
 abbrev ok : List Message → Result (List Message) CleanFault
 ok ns = Ok ns
@@ -34,7 +34,7 @@ pub open_by : (drops : ℕ → Bool) (refuses : Update → Bool) (ns : List Mess
 open_by drops refuses ns (Ok o) e = handed_by o ns (lacks_family o) e
 open_by drops refuses ns (Err fault) e = fault_by drops refuses ns (open_notification fault) e
 
--- what was read comes back
+-- the OPEN that was read
 abbrev took : Open → Outcome
 took o = Outcome.Took (Message.Open o) []
 
@@ -49,9 +49,9 @@ read_by : (r : Result Open OpenFault) (p : Open) → of_reading r ≡ took p →
 read_by (Ok o) p e = ap (λ (x : Open). Ok x) (same_open o p e)
 read_by (Err fault) p e = absurd (no_open (open_notification fault) p e)
 
--- ---- what is handed on of an UPDATE
+-- ---- what is passed on of an UPDATE
 
--- a KEEPALIVE alone, or UPDATEs
+-- one KEEPALIVE, or UPDATEs
 abbrev AreUpdatesOrNone : List Message → Type 0
 AreUpdatesOrNone (Message.Update u ∷ later) = Unit {0}
 AreUpdatesOrNone (Message.Keepalive ∷ []) = Unit {0}
@@ -71,7 +71,7 @@ update_by drops refuses family ns (Verdict.Take u notes) e = handed_update refus
 update_by drops refuses family ns (Verdict.Withdraw routes notes) e = subst AreUpdatesOrNone (ok-same (Message.Update (withdrawal routes) ∷ []) ns e) tt
 update_by drops refuses family ns (Verdict.Reset why) e = absurd (not_ok _ ns e)
 
--- their length tells which they are
+-- their length shows which they are
 read_update : (ctx : Context) (ns : List Message) (octets : List ℕ) → AreUpdatesOrNone ns → octets ≡ octets_handed ctx ns → AllByRecursion (IsTakenAsItself ctx) ns → IsReadUpdate ns octets
 read_update ctx (Message.Update u ∷ later) octets of is all =
     let least : 23 ≤ length (canonical ctx (Message.Update u)) = (all.0).whole.allowed.least in
@@ -82,7 +82,7 @@ read_update ctx (Message.Open o ∷ later) octets of is all = absurd of
 read_update ctx (Message.Notification n ∷ later) octets of is all = absurd of
 read_update ctx [] octets of is all = absurd of
 
--- ---- what a message that is handed on is, as octets
+-- ---- a message that is passed on, as octets
 
 pub record IsPassed (ctx : Context) (drops : ℕ → Bool) (refuses : Update → Bool) (m : frame.Message) (octets : List ℕ) : Type 0 where
   pub messages : List Message
@@ -118,7 +118,7 @@ module _ (ctx : Context) (drops : ℕ → Bool) (refuses : Update → Bool) wher
       let r = reads m.kind m.body octets ns is e (handed-clean ctx drops refuses true m whole ns are f e) in
       record { messages = ns; is = e; written = is; read = r.0; least = r.1 }
 
-  -- what is cleaned is handed on
+  -- what is cleaned is passed on
   passed : (m : frame.Message) (whole octets : List ℕ) → AreOctets whole → IsFrame m whole → IsCleaned ctx (cleaned ctx drops refuses true m) [] octets HandedOn
       → IsPassed ctx drops refuses m octets
   passed m whole octets are f is = by (cleaned ctx drops refuses true m) refl is
@@ -127,7 +127,7 @@ module _ (ctx : Context) (drops : ℕ → Bool) (refuses : Update → Bool) wher
       by (Ok ns) e came = passes m whole octets ns are f came e
       by (Err fault) e came = absurd came
 
-  -- the same of a page that had nothing on it
+  -- the same of an empty page
   pub passed_page : (m : frame.Message) (whole fresh out octets : List ℕ) (came : Cleaned) → AreOctets whole → IsFrame m whole → fresh ≡ [] → came ≡ HandedOn → octets ≡ out
       → IsCleaned ctx (cleaned ctx drops refuses true m) fresh out came → IsPassed ctx drops refuses m octets
   passed_page m whole fresh out octets came are f none on same is =

@@ -1,4 +1,4 @@
--- Ranges of a room that is written to.
+-- Ranges of a buffer that is written to.
 use Rattle.bgp_guard.proofs.Prelude.{◌≡◌, ℕ, ◌+◌, ◌-◌, ◌≤◌, List, ◌++◌, length, take, drop, sym, ap, ◌∙◌, arith, slice_range, drop-take, drop-append-le}
 use Rattle.bgp_guard.proofs.Prelude.{take-append-add, take-append_seam, drop-drop, length-take, length-drop}
 
@@ -8,7 +8,7 @@ less_front n start end xs within =
     sym (ap (λ (m : ℕ). drop n (take m (drop start xs))) count ∙ drop-take n (end - (start + n)) (drop start xs)
     ∙ ap (take (end - (start + n))) (drop-drop n start xs))
 
--- octets that are written from an end on stand behind those up to it
+-- octets that are written from `end` on follow those before it
 pub written_behind : (start end : ℕ) (room octets rest : List ℕ) → start ≤ end → end ≤ length room
     → slice_range (take end room ++ (octets ++ rest)) start (end + length octets) ≡ slice_range room start end ++ octets
 written_behind start end room octets rest order within =

@@ -88,7 +88,7 @@ behind_append : (a : Life) (before after : List Event) → life_behind a (before
 behind_append a [] after = refl
 behind_append a (e ∷ before) after = behind_append (happens a e) before after
 
--- an event behind which the guard runs, or has ended
+-- an event after which the guard runs, or has ended
 reason_at : (rules : Rules) (before : List Event) (e : Event) (later : List Event) → runs (life rules before).guard.stage ≡ true
     → (runs (life rules (before ++ e ∷ [])).guard.stage ≡ true → HasReason rules ((before ++ e ∷ []) ++ later))
     → (b : Bool) → runs (happens (life rules before) e).guard.stage ≡ b → HasReason rules (before ++ e ∷ later)
@@ -96,7 +96,7 @@ reason_at rules before e later ran again true on =
     subst (HasReason rules) (append_assoc before (e ∷ []) later) (again (ap (λ (a : Life). runs a.guard.stage) (behind_append (born rules) before (e ∷ [])) ∙ on))
 reason_at rules before e later ran again false off = record { before = before; event = e; behind = later; is = refl; ran = ran; ends = event_ends (life rules before) e ran off }
 
--- from a beginning on, behind which the guard runs
+-- for later events, where the guard runs after the earlier ones
 reason_behind : (rules : Rules) (before later : List Event) → runs (life rules before).guard.stage ≡ true → runs (life_behind (life rules before) later).guard.stage ≡ false
     → HasReason rules (before ++ later)
 reason_behind rules before [] ran ends = absurd (true≢false (sym ran ∙ ends))

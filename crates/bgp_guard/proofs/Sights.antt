@@ -1,4 +1,4 @@
--- What a side sees behind an event.
+-- What a side sees after an event.
 use Rattle.bgp_guard.proofs.Prelude.{◌≡◌, ℕ, suc, ◌+◌, ◌<◌, ◌≤◌, ◌&&◌, and_parts, subst, Bool, true, false, List, [], ◌∷◌, ◌++◌, ◌||◌, length, nat_lt, Result, refl, sym, ap, ap₂, ◌∙◌, arith, le-ltb, ◌↔◌, if◌then◌else◌}
 use Rattle.bgp_guard.proofs.Prelude.{true≢false, has_octet, Kind, Context, Message, out_of, outcome_value, canonical, CleanFault, cleaned, Rules, Stage, Half}
 use Rattle.bgp_guard.proofs.Prelude.{Guarding, Sight, runs, Answers, answered, reject_both, answers_to, cleans, refusal, context_in, handed_on, handed_or, said_as}
@@ -35,7 +35,7 @@ no_way : (way : List ℕ) → is_empty way ≡ true → way ≡ []
 no_way [] e = refl
 no_way (octet ∷ way) e = absurd (true≢false (sym e))
 
--- where one is due nothing is on the way
+-- where one is due nothing is queued
 pub due_empty : (hold : ℕ) (h : Half) → is_due hold h ≡ true → h.way ≡ []
 due_empty hold h due =
     let rest = (and_parts h.owed (is_empty h.way && nat_le hold (3 * h.quiet)) due).1 in
@@ -80,13 +80,13 @@ no_reset (OutcomeView.Reset why) not = absurd (not why refl)
 pub over : (s t : Sight) (a : Answers) → t ≡ answered s a → runs t.stage ≡ false
 over s t a e = ap (λ (x : Sight). runs x.stage) e
 
--- so there may be anything on the way
+-- so there may be anything in the queue
 pub no_room : (stage : Stage) (way : List ℕ) → runs stage ≡ false → HasRoom stage way
 no_room stage way not = λ up. absurd (true≢false (sym up ∙ not))
 
--- ---- a message that is handed on
+-- ---- a message that is passed on
 
--- the length of what stands for an UPDATE tells whether it is dropped
+-- the length of what replaces an UPDATE shows whether it is dropped
 pub dropped_by : (silent short : Bool) (ns : List Message) (b : List ℕ) → short ≡ nat_lt (length b) 23 → IsReadUpdate ns b → (silent || short) ≡ is_dropped (left_of silent ns)
 dropped_by true short ns b is read = refl
 dropped_by false short (Message.Update u ∷ later) b is read = is ∙ le-ltb (length b) 23 read
@@ -114,7 +114,7 @@ said_all silent Kind.Open ns e = (refl, some_said ns e)
 said_all silent Kind.Notification ns e = (refl, some_said ns e)
 said_all silent Kind.Keepalive ns e = (refl, some_said ns e)
 
--- none of a message that isn't an UPDATE is dropped
+-- no message but an UPDATE is dropped
 pub kept_whole : (ns : List Message) → 0 < length ns → false ≡ is_dropped ns
 kept_whole [] some = absurd (omega (arith, some))
 kept_whole (n ∷ later) some = refl

@@ -30,7 +30,7 @@ shutdown = notification_with CEASE ADMINISTRATIVE_SHUTDOWN []
 abbrev pub bad_peer_as : Notification
 bad_peer_as = notification_with OPEN_MESSAGE BAD_PEER_AS []
 
--- its OPEN didn't come in time, or the other side doesn't read
+-- its OPEN didn't arrive in time, or the other side doesn't read
 abbrev pub expired : Notification
 expired = notification_with HOLD_TIMER_EXPIRED UNSPECIFIC []
 
@@ -38,19 +38,19 @@ expired = notification_with HOLD_TIMER_EXPIRED UNSPECIFIC []
 abbrev pub unexpected : ℕ → Kind → Notification
 unexpected subcode kind = notification_with FINITE_STATE_MACHINE subcode (code_of kind ∷ [])
 
--- what one side is told, and what the other
+-- the NOTIFICATION to one side, and that to the other
 pub record Answers : Type 0 where
   pub this : Notification
   pub other : Notification
 
--- the side that erred is told how, the other that there was a reset
+-- the side that erred is sent its error, the other that there was a reset
 abbrev pub reset_by : Notification → Answers
 reset_by n = record { this = n; other = reset_over }
 
 abbrev pub reject_both : Answers
 reject_both = record { this = rejected; other = rejected }
 
--- a NOTIFICATION stands behind all that is on its way to a side
+-- a NOTIFICATION is queued after all that is queued for a side
 abbrev pub told : Notification → Half → Half
 told n h = record h { way = h.way ++ notice n }
 
@@ -58,7 +58,7 @@ told n h = record h { way = h.way ++ notice n }
 abbrev pub answered : Sight → Answers → Sight
 answered s a = record { stage = stage.Ends DRAIN_SECONDS; this = told a.this s.this; other = told a.other s.other }
 
--- a side without an OPEN has had its time; the other is reset
+-- a side without an OPEN has timed out; the other is reset
 abbrev pub late_answer : Option Said → Notification
 late_answer None = expired
 late_answer (Some said) = reset_over

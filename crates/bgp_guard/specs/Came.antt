@@ -1,4 +1,4 @@
--- What the guard says of the octets that came.
+-- What the guard reports of received octets.
 use Rattle.std.specs.Prelude.{◌≡◌, ◌↔◌, ◌<◌, ℕ, Bool, true, false, List, [], ◌∷◌, ◌++◌, length, take, Option, None, Some, Result, Ok, Err}
 use Rattle.std.specs.List.{flat_map}
 use Rattle.bgp_frame.specs.declared.fault.HeadFault.{HeadFault}
@@ -22,17 +22,17 @@ abbrev pub IsAnswered : Notification → Came → Type 0
 IsAnswered n (Answered code subcode) = (code ≡ n.code) × (subcode ≡ n.subcode)
 IsAnswered n _ = ⊥
 
--- a message of this kind was handed on, and whether the octets are those that came
+-- a message of this kind was passed on, and whether the octets are those received
 abbrev pub IsHandedOn : Kind → List ℕ → List ℕ → Came → Type 0
 IsHandedOn k octets passed (HandedOn kind same) = (kind ≡ k) × ((same ≡ true) ↔ (passed ≡ octets))
 IsHandedOn k octets passed _ = ⊥
 
--- nothing was handed on of a message of this kind
+-- nothing was passed on of a message of this kind
 abbrev pub IsDropped : Kind → Came → Type 0
 IsDropped k (Dropped kind) = kind ≡ k
 IsDropped k _ = ⊥
 
--- these messages were handed on in place of it
+-- these messages were passed on instead of it
 abbrev pub IsPassedOn : Context → Kind → List ℕ → List Message → Came → Type 0
 IsPassedOn ctx k octets [] came = IsDropped k came
 IsPassedOn ctx k octets (n ∷ later) came = IsHandedOn k octets (flat_map (canonical ctx) (n ∷ later)) came
@@ -41,7 +41,7 @@ abbrev pub CameBy : Bool → Sight → frame.Message → Result (List Message) A
 CameBy silent s m (Ok ns) came = IsPassedOn (context_in s) m.kind (octets_of m) (said_as silent m.kind ns) came
 CameBy silent s m (Err answers) came = IsAnswered answers.this came
 
--- of what is held
+-- what is reported of what is held
 abbrev pub CameOf : Rules → Bool → Sight → Option (Result frame.Message HeadFault) → Came → Type 0
 CameOf rules silent s None came = came ≡ Nothing
 CameOf rules silent s (Some (Ok m)) came = CameBy silent s m (comes_of rules s m) came
@@ -50,7 +50,7 @@ CameOf rules silent s (Some (Err fault)) came = IsAnswered (head_notification fa
 abbrev pub CameIn : Rules → Bool → Sight → Came → Type 0
 CameIn rules silent s came = CameOf rules silent (holding s []) (content_of s.this.held) came
 
--- how many octets of a piece are taken: up to the end of a message, and at least one where the side is read
+-- the number of octets of a piece that are consumed: up to the end of a message, and at least one where the side is read
 abbrev pub Counts : Bool → List ℕ → List ℕ → ℕ → Type 0
 Counts true held piece n = Takes held piece n × (0 < length piece → 0 < n)
 Counts false held piece n = n ≡ 0
@@ -59,13 +59,13 @@ abbrev pub CameFrom : Bool → Rules → Bool → Sight → List ℕ → Came �
 CameFrom true rules silent s octets came = CameIn rules silent (holding s (s.this.held ++ octets)) came
 CameFrom false rules silent s octets came = came ≡ Nothing
 
--- so many octets of a piece are taken, one after another, and this came of them
+-- n octets of a piece are consumed, one after another, with this result
 pub record IsHeardBy (rules : Rules) (silent : Bool) (old : Sight) (piece : List ℕ) (n : ℕ) (came : Came) (new : Sight) : Type 0 where
   pub count : Counts (listens_in old) old.this.held piece n
   pub after : new ≡ by_octets rules silent old (take n piece)
   pub told : CameFrom (listens_in old) rules silent old (take n piece) came
 
--- of a side of the guard
+-- for a side of the guard
 abbrev pub IsHeard : Side → Guarding → List ℕ → ℕ → Came → Guarding → Type 0
 IsHeard side old piece n came new =
     IsHeardBy (rules_of side old.rules) (is_silent side old.rules) (seen_from side old) piece n came (seen_from side new) × (new.rules ≡ old.rules)

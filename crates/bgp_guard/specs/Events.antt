@@ -1,4 +1,4 @@
--- What events do that bring no octets.
+-- What events without octets do.
 use Rattle.std.specs.Prelude.{ℕ, suc, ◌==◌, ◌+◌, ◌-◌, ◌*◌, ◌++◌, Bool, true, false, ◌&&◌, ◌||◌, min, not, nat_le, nat_lt, List, [], drop, is_some, if◌then◌else◌}
 use Rattle.bgp_guard.specs.declared.side.Side.{Side}
 use Rattle.bgp_guard.specs.declared.stage.Stage.{Stage}
@@ -15,20 +15,20 @@ use Rattle.bgp_guard.specs.Answers.{expired, late_answer, notice, rejected, shut
 abbrev pub for_side : (Sight → Sight) → Side → Guarding → Guarding
 for_side rule side g = guard_of side g.rules (rule (seen_from side g))
 
--- the connection stands
+-- the connection is up
 abbrev pub stood : Sight → Sight
 stood s = record s { this = record s.this { stands = true } }
 
--- a side gets nothing more: what was on its way is gone, and the other is told why
+-- a side gets nothing more: what was queued for it is dropped, and the other is sent the reason
 abbrev pub cut_if : Bool → Notification → Sight → Sight
 cut_if true why s = record { stage = Stage.Ends DRAIN_SECONDS; this = record s.this { way = [] }; other = told why s.other }
 cut_if false why s = s
 
--- a side that doesn't stand can't be reached: there is no session for the other
+-- a side that isn't up can't be reached: there is no session for the other
 abbrev pub unreached : Sight → Sight
 unreached s = cut_if (runs s.stage && not s.this.stands) rejected s
 
--- what is on its way to a side hasn't moved for the Hold Time: it doesn't read, and the session of both ends (RFC 4271, section 6.5)
+-- what is queued for a side hasn't moved for the Hold Time: it doesn't read, and the session of both ends (RFC 4271, section 6.5)
 abbrev pub stalled : Sight → Sight
 stalled s = cut_if (runs s.stage) expired s
 
@@ -39,7 +39,7 @@ seconds_or other ctx = if ctx.hold == 0 then other else ctx.hold
 abbrev pub stall_seconds : Guarding → ℕ
 stall_seconds g = seconds_or OPEN_SECONDS (agreed g.outer.peer g.inner.peer)
 
--- a side that stood has closed: the other gets what is on its way to it, and nothing of what was held
+-- a side that was up has closed: the other gets what is queued for it, and nothing of what was held
 abbrev pub ended : Stage → Stage
 ended (Stage.Runs n) = Stage.Ends DRAIN_SECONDS
 ended (Stage.Ends n) = Stage.Ends n
@@ -51,13 +51,13 @@ closed_if false s = s
 abbrev pub closed : Sight → Sight
 closed s = closed_if s.this.stands s
 
--- so many octets that were on their way to a side are sent: all of them where there are no more
+-- n octets that were queued for a side are sent: all of them where there are fewer
 abbrev pub sent : ℕ → Sight → Sight
 sent n s = record s { this = record s.this { way = drop n s.this.way } }
 
 -- ---- the owner ends the session
 
--- a side that stands is told, behind what is on its way; one that doesn't gets nothing
+-- a side that is up is sent it, after what is queued; one that isn't gets nothing
 abbrev pub farewell : Bool → List ℕ → List ℕ
 farewell true way = way ++ notice shutdown
 farewell false way = []
@@ -77,11 +77,11 @@ stopped g = stopped_if (runs g.stage) g
 abbrev pub told_late : Half → Half
 told_late h = told (late_answer h.peer) h
 
--- the OPENs have had their time
+-- the OPENs have timed out
 abbrev pub late : Guarding → Guarding
 late g = record g { stage = Stage.Ends DRAIN_SECONDS; outer = told_late g.outer; inner = told_late g.inner }
 
--- the seconds count from when the first side stood, while an OPEN is missing
+-- the seconds count from when the first side came up, while an OPEN is missing
 abbrev pub is_waiting : Guarding → Bool
 is_waiting g = (g.outer.stands || g.inner.stands) && not (is_some g.outer.peer && is_some g.inner.peer)
 
@@ -90,7 +90,7 @@ is_waiting g = (g.outer.stands || g.inner.stands) && not (is_some g.outer.peer &
 abbrev pub keepalive : List ℕ
 keepalive = octets_of (record { kind = Kind.Keepalive; body = [] })
 
--- it is due where one is owed, nothing is on the way to the side, and for a third of the Hold Time nothing was handed on to it
+-- it is due where one is owed, nothing is queued for the side, and for a third of the Hold Time nothing was passed on to it
 abbrev pub is_due : ℕ → Half → Bool
 is_due hold h = h.owed && (is_empty h.way && nat_le hold (3 * h.quiet))
 
@@ -109,14 +109,14 @@ owed_then false owed = owed
 abbrev pub reminded : Bool → Half → Half
 reminded due h = record h { way = h.way ++ reminder due; quiet = quiet_then due h.quiet; owed = owed_then due h.owed }
 
--- a second more has gone by, of at most 65535
+-- one more second has passed, of at most 65535
 abbrev pub aged : Half → Half
 aged h = record h { quiet = min (h.quiet + 1) 65535 }
 
 abbrev pub kept : ℕ → Half → Half
 kept hold h = reminded (is_due hold (aged h)) (aged h)
 
--- the session is established once both KEEPALIVEs were handed on; with a Hold Time of 0 no KEEPALIVEs are sent
+-- the session is established once both KEEPALIVEs were passed on; with a Hold Time of 0 no KEEPALIVEs are sent
 abbrev pub keeps_alive : ℕ → Guarding → Bool
 keeps_alive hold g = not (hold == 0) && (g.outer.ready && g.inner.ready)
 

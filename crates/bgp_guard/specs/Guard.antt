@@ -1,4 +1,4 @@
--- What a guard keeps of its two sides, and where it stands.
+-- What a guard keeps of its two sides, and its stage.
 use Rattle.std.specs.Prelude.{ℕ, zero, suc, Bool, true, false, not, ◌&&◌, nat_le, List, [], length, Option, None}
 use Rattle.bgp_open.specs.Prelude.{Said}
 use Rattle.bgp_clean.specs.Prelude.{no_limits}
@@ -7,9 +7,9 @@ use Rattle.bgp_guard.specs.declared.side.Side.{Side}
 use Rattle.bgp_guard.specs.declared.stage.Stage.{Stage}
 use Rattle.bgp_guard.specs.declared.way.TheConstants.{ROOM}
 
--- What is kept of a side: whether its connection stands; the octets of an incomplete message that came from it; what its OPEN says, once that was
--- handed on; whether its KEEPALIVE was; the octets that are on their way to it; how many seconds of an established session nothing was handed on to it;
--- and whether it is owed a KEEPALIVE, since a message was dropped on the way to it
+-- What is kept of a side: whether its connection is up; the octets of an incomplete message received from it; what its OPEN says, once that was
+-- passed on; whether its KEEPALIVE was; the octets queued for it; for how many seconds of an established session nothing was passed on to it;
+-- and whether it is owed a KEEPALIVE, since a message to it was dropped
 pub record Half : Type 0 where
   pub stands : Bool
   pub held : List ℕ
@@ -28,7 +28,7 @@ pub record Guarding : Type 0 where
   pub outer : Half
   pub inner : Half
 
--- no side stands yet
+-- no side is up yet
 abbrev pub fresh : Rules → Guarding
 fresh rules = record { rules = rules; stage = Stage.Runs 0; outer = absent; inner = absent }
 
@@ -51,17 +51,17 @@ abbrev pub guard_of : Side → Rules → Sight → Guarding
 guard_of Side.Outer rules s = record { rules = rules; stage = s.stage; outer = s.this; inner = s.other }
 guard_of Side.Inner rules s = record { rules = rules; stage = s.stage; outer = s.other; inner = s.this }
 
--- the routes of this side aren't handed on
+-- the routes of this side aren't passed on
 abbrev pub is_silent : Side → Rules → Bool
 is_silent Side.Outer rules = false
 is_silent Side.Inner rules = rules.one_way
 
--- what is asked of the announcements of a side: nothing of the guarded speaker's own
+-- the rules for the announcements of a side: none for the guarded speaker's own
 abbrev pub rules_of : Side → Rules → Rules
 rules_of Side.Outer rules = rules
 rules_of Side.Inner rules = record rules { limits = no_limits; first_as = false }
 
--- ---- what it asks of its owner
+-- ---- what it requires of its owner
 
 abbrev pub runs : Stage → Bool
 runs (Stage.Runs n) = true
@@ -71,7 +71,7 @@ runs (Stage.Ends n) = false
 abbrev pub has_ended : Guarding → Bool
 has_ended g = not (runs g.stage)
 
--- octets of a side are read while messages are handed on, it stands, and what is on its way to the other leaves room for a message
+-- octets of a side are read while messages are passed on, it is up, and what is queued for the other leaves room for a message
 abbrev pub listens_in : Sight → Bool
 listens_in s = runs s.stage && (s.this.stands && nat_le (length s.other.way) ROOM)
 
@@ -82,7 +82,7 @@ abbrev pub is_empty : List ℕ → Bool
 is_empty [] = true
 is_empty _ = false
 
--- a side is to be closed once the guard has ended and nothing is on its way to it, or the seconds for that are over
+-- a side is to be closed once the guard has ended and nothing is queued for it, or the seconds for that are over
 abbrev pub closes_with : Stage → List ℕ → Bool
 closes_with (Stage.Runs n) way = false
 closes_with (Stage.Ends zero) way = true

@@ -12,6 +12,6 @@ half_with held l = record { stands = l.stands; held = held; peer = option_map sa
 abbrev pub half_of : code.Half → Half
 half_of h = half_with h.framer h.line
 
--- while messages are handed on there is room for a NOTIFICATION on the way to a side
+-- while messages are passed on there is room for a NOTIFICATION in the queue for a side
 abbrev pub HasRoom : Stage → List ℕ → Type 0
 HasRoom stage way = runs stage ≡ true → length way ≤ 65536

@@ -1,4 +1,4 @@
--- What the octets of a side do: each whole message is judged, cleaned and handed on, or answered (RFC 7606; RFC 4271, section 6).
+-- What the octets of a side do: each whole message is judged, cleaned and passed on, or answered (RFC 7606; RFC 4271, section 6).
 use Rattle.std.specs.Prelude.{◌==◌, ◌||◌, ◌&&◌, not, ℕ, Bool, true, false, List, [], ◌∷◌, ◌++◌, Option, None, Some, option_map, Result, Ok, Err, if◌then◌else◌}
 use Rattle.std.specs.List.{flat_map}
 use Rattle.std.specs.Option.{option_or}
@@ -25,7 +25,7 @@ use Rattle.bgp_guard.specs.Guard.{Half, Sight, listens_in}
 use Rattle.bgp_guard.specs.Place.{misplaced}
 use Rattle.bgp_guard.specs.Answers.{Answers, bad_peer_as, reset_by, reject_both, unexpected, answered}
 
--- where not both OPENs were handed on: only messages are judged whose outcome is the same in any context
+-- until both OPENs were passed on: only messages are judged then whose outcome is the same in any context
 abbrev pub no_context : Context
 no_context = record { internal = false; as4 = false; ip4 = false; ip6 = false; hold = 0 }
 
@@ -33,13 +33,13 @@ abbrev pub agreed : Option Said → Option Said → Context
 agreed (Some ours) (Some theirs) = agreed_with ours theirs
 agreed _ _ = no_context
 
--- what both sides agreed on, by the OPENs as they were handed on
+-- what both sides agreed on, by the OPENs as they were passed on
 abbrev pub context_in : Sight → Context
 context_in s = agreed s.this.peer s.other.peer
 
--- ---- what comes of a message: one that is handed on in its place, or answers
+-- ---- the result of a message: messages that are passed on instead of it, or answers
 
--- the message's own fault is told; an OPEN without one loses all of its families
+-- the message's own fault is reported; an OPEN without one loses all of its families
 abbrev pub answers_to : Outcome → Answers
 answers_to (Outcome.Reset n) = reset_by n
 answers_to _ = reject_both
@@ -48,7 +48,7 @@ abbrev pub handed_or : Outcome → Result (List Message) CleanFault → Result (
 handed_or o (Ok ns) = Ok ns
 handed_or o (Err f) = Err (answers_to o)
 
--- the AS number by which a session knows a speaker: My Autonomous System where not both have AS numbers of four octets (RFC 6793, section 4.1)
+-- the AS number by which a session knows a speaker: My Autonomous System where not both have 4-octet AS numbers (RFC 6793, section 4.1)
 abbrev pub number_in : Context → Said → ℕ
 number_in ctx said = if ctx.as4 then number_of said else said.as_field
 
@@ -57,13 +57,13 @@ abbrev pub neighbour_as : Bool → Context → Option Said → Option ℕ
 neighbour_as true ctx said = option_map (number_in ctx) said
 neighbour_as false ctx said = None
 
--- the AS number that the paths of a side begin with, by what its OPEN says: that which the owner gives, else on an external session, where the owner asks
--- for it, the neighbour's own (RFC 4271, section 6.3)
+-- the AS number that the paths of a side begin with, by what its OPEN says: that which the owner gives, else on an external session, where the owner
+-- requires it, the neighbour's own (RFC 4271, section 6.3)
 abbrev pub first_as_in : Rules → Context → Option Said → Option ℕ
 first_as_in rules ctx said = option_or rules.limits.first_as (neighbour_as (rules.first_as && not ctx.internal) ctx said)
 
--- what its owner asks of the announcements of a side, in a context and by what its OPEN says: a first AS, and on an internal session LOCAL_PREF (RFC 4271,
--- section 5.1.5)
+-- what the owner requires of the announcements of a side, in a context and by what its OPEN says: a first AS, and on an internal session LOCAL_PREF
+-- (RFC 4271, section 5.1.5)
 abbrev pub limits_in : Rules → Context → Option Said → Limits
 limits_in rules ctx said = record rules.limits { local_pref = rules.limits.local_pref && ctx.internal; first_as = first_as_in rules ctx said }
 
@@ -74,7 +74,7 @@ refusal rules ctx said = refuses_in ctx (limits_in rules ctx said)
 abbrev pub cleans : Rules → Sight → frame.Message → Result (List Message) Answers
 cleans rules s m = handed_or (out_of (context_in s) m) (cleaned (context_in s) (has_octet rules.drops) (refusal rules (context_in s) s.this.peer) true m)
 
--- ---- an OPEN of AS 0 isn't handed on (RFC 7607, section 2): neither My Autonomous System nor the number of four octets is 0
+-- ---- an OPEN of AS 0 isn't passed on (RFC 7607, section 2): neither My Autonomous System nor the 4-octet number is 0
 
 abbrev pub is_of_zero : Said → Bool
 is_of_zero s = (s.as_field == 0) || (number_of s == 0)
@@ -91,7 +91,7 @@ abbrev pub known : Rules → Sight → frame.Message → Bool → Result (List M
 known rules s m true = Err (reset_by bad_peer_as)
 known rules s m false = cleans rules s m
 
--- ---- a message is judged where it is in its place
+-- ---- a message is judged where it is in place
 
 abbrev pub placed : Rules → Sight → frame.Message → Option ℕ → Result (List Message) Answers
 placed rules s m None = known rules s m (has_zero m.kind m.body)
@@ -102,7 +102,7 @@ comes_of rules s m = placed rules s m (misplaced s m.kind)
 
 -- ---- what it does
 
--- what an OPEN says is kept as it is handed on
+-- what an OPEN says is kept as it is passed on
 abbrev pub peer_behind : Kind → List Message → Option Said → Option Said
 peer_behind Kind.Open (Message.Open o ∷ later) before = Some (said_by o)
 peer_behind _ _ before = before
@@ -116,18 +116,18 @@ abbrev pub stage_behind : Kind → Stage → Stage
 stage_behind Kind.Notification before = Stage.Ends DRAIN_SECONDS
 stage_behind _ before = before
 
--- what goes on of an UPDATE once it is cleaned: nothing where the side's routes stay inside, or where a KEEPALIVE stands for it, since it says nothing
+-- what remains of a cleaned UPDATE: nothing where the side's routes stay inside, or where a KEEPALIVE replaces it, since it has no routes
 abbrev pub left_of : Bool → List Message → List Message
 left_of true ns = []
 left_of false (Message.Keepalive ∷ later) = []
 left_of false ns = ns
 
--- the messages that are handed on in place of one that came, by its kind
+-- the messages that are passed on instead of a received one, by its kind
 abbrev pub said_as : Bool → Kind → List Message → List Message
 said_as silent Kind.Update ns = left_of silent ns
 said_as silent kind ns = ns
 
--- where nothing is handed on the other side is owed a KEEPALIVE: the sender counts the message as one, and the receiver hasn't heard it
+-- where nothing is passed on the other side is owed a KEEPALIVE: the sender counts the message as one, and the receiver hasn't received it
 abbrev pub is_dropped : List Message → Bool
 is_dropped [] = true
 is_dropped (n ∷ later) = false
@@ -153,7 +153,7 @@ done silent s kind (Err answers) = answered s answers
 abbrev pub holding : Sight → List ℕ → Sight
 holding s held = record s { this = record s.this { held = held } }
 
--- what is held comes to nothing yet, to a message or to a header with a fault, and then nothing is held
+-- what is held is incomplete, a message or a header with a fault; where it is one of these, nothing is held after it
 abbrev pub heard_as : Rules → Bool → Sight → Option (Result frame.Message HeadFault) → Sight
 heard_as rules silent s None = s
 heard_as rules silent s (Some (Ok m)) = done silent (holding s []) m.kind (comes_of rules (holding s []) m)

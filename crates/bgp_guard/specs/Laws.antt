@@ -1,4 +1,4 @@
--- What the law of the guard says of the octets of one side, and of those that the other was given.
+-- What the law of the guard claims of the octets of one side, and of those that the other was given.
 use Rattle.std.specs.Prelude.{◌≡◌, ◌<◌, ◌≤◌, ◌⊎◌, ◌&&◌, ℕ, suc, Bool, true, false, List, [], ◌∷◌, ◌++◌, is_some, Option, None, Some, Result, Ok, Err}
 use Rattle.std.specs.List.{flat_map, AllByRecursion}
 use Rattle.bgp_wire.specs.Prelude.{has_octet, Row}
@@ -24,7 +24,7 @@ use Rattle.bgp_guard.specs.Guard.{Sight, is_silent, listens_in, rules_of, runs}
 use Rattle.bgp_guard.specs.Hearing.{agreed, comes_of, holding, refusal, said_as}
 use Rattle.bgp_guard.specs.Life.{Event, Closed, Octet, Stalled, Stopped, Ticked, Unreached, Life, life, life_from}
 
--- what goes on of one message, and of those behind it
+-- what is passed on of one message, and of those after it
 abbrev pub said_then : Bool → Kind → Result (List Message) CleanFault → List Message → List Message
 said_then silent kind (Ok ns) later = said_as silent kind ns ++ later
 said_then silent kind (Err f) later = []
@@ -34,8 +34,8 @@ direction_from ctx said rules silent first [] = []
 direction_from ctx said rules silent first (m ∷ later) =
     said_then silent m.kind (cleaned ctx (has_octet rules.drops) (refusal rules ctx said) first m) (direction_from ctx said rules silent false later)
 
--- the cleaned form of a direction, by what the OPEN of its side says: the cleaned stream of its messages, without UPDATEs of which nothing is left, or whose
--- routes stay inside
+-- the cleaned form of a direction, by what the OPEN of its side says: the cleaned stream of its messages, without UPDATEs of which nothing remains,
+-- or whose routes stay inside
 abbrev pub direction : Context → Option Said → Rules → Bool → List frame.Message → List Message
 direction ctx said rules silent messages = direction_from ctx said rules silent true messages
 
@@ -44,7 +44,7 @@ pub record Begins (n : Message) (goes_on : List Message → Type 0) (said : List
   pub is : said ≡ n ∷ later
   pub rest : goes_on later
 
--- the first are the second in their order, with KEEPALIVEs of the guard's own between
+-- the first are the second in their order, interleaved with KEEPALIVEs of the guard's own
 abbrev pub WithKeepalives : List Message → List Message → Type 0
 WithKeepalives [] said = said ≡ []
 WithKeepalives (n ∷ later) said = Begins n (WithKeepalives later) said ⊎ ((n ≡ Message.Keepalive) × WithKeepalives later said)
@@ -56,7 +56,7 @@ own_octets (Some n) = notice n
 abbrev pub IsNoNotification : frame.Message → Type 0
 IsNoNotification m = m.kind ≡ kind.Notification → ⊥
 
--- the first message is an OPEN, which was handed on, and says this
+-- the first message is an OPEN, which was passed on, and says this
 pub record IsFirst (rules : Rules) (ctx : Context) (messages : List frame.Message) (said : Said) : Type 0 where
   pub first : frame.Message
   pub later : List frame.Message
@@ -65,13 +65,14 @@ pub record IsFirst (rules : Rules) (ctx : Context) (messages : List frame.Messag
   pub handed : cleaned ctx (has_octet rules.drops) (refusal rules ctx (Some said)) true first ≡ Ok (Message.Open value ∷ [])
   pub says : said ≡ said_by value
 
--- what is kept of an OPEN is what the OPEN says that was handed on
+-- what is kept of an OPEN is what the passed-on OPEN says
 abbrev pub IsKept : Rules → Context → List frame.Message → Option Said → Type 0
 IsKept rules ctx messages None = Unit {0}
 IsKept rules ctx messages (Some said) = IsFirst rules ctx messages said
 
--- Whole messages came in order, and others behind them. What a side was given, what is on its way and what was lost as it closed is the cleaned form
--- of these messages, with KEEPALIVEs of the guard's own between, and then nothing or a NOTIFICATION of its own: none where one of these messages is one
+-- Whole messages arrived in order, and other octets after them. What a side was given, what is queued for it and what was lost as it closed is the
+-- cleaned form of these messages, interleaved with KEEPALIVEs of the guard's own, and then nothing or a NOTIFICATION of its own: none where one of
+-- these messages is one
 pub record IsHandedOver (rules : Rules) (silent : Bool) (ctx : Context) (kept : Option Said) (came given way : List ℕ) : Type 0 where
   pub messages : List frame.Message
   pub row : List ℕ
@@ -86,7 +87,7 @@ pub record IsHandedOver (rules : Rules) (silent : Bool) (ctx : Context) (kept : 
   pub put : given ++ (way ++ lost) ≡ flat_map (canonical ctx) handed ++ own_octets own
   pub alone : (own ≡ None) ⊎ AllByRecursion IsNoNotification messages
 
--- While the guard runs, these are all messages that came, and nothing of them is lost
+-- While the guard runs, these are all messages received, and nothing of them is lost
 pub record IsAllHandedOver (rules : Rules) (silent : Bool) (ctx : Context) (kept : Option Said) (came given way : List ℕ) : Type 0 where
   pub messages : List frame.Message
   pub row : List ℕ
@@ -131,7 +132,7 @@ EndsContent rules s (Some (Err fault)) = Unit {0}
 abbrev pub EndsHearing : Rules → Sight → ℕ → Type 0
 EndsHearing rules s octet = (listens_in s ≡ true) × EndsContent rules s (content_of (s.this.held ++ octet ∷ []))
 
--- with one second more the OPENs have had their time
+-- with one more second the OPENs have timed out
 abbrev pub IsLast : Stage → Type 0
 IsLast (Stage.Runs n) = OPEN_SECONDS ≤ suc n
 IsLast (Stage.Ends n) = ⊥

@@ -6,7 +6,7 @@ use Rattle.bgp_guard.specs.Guard.{Guarding, Sight, fresh, seen_from, guard_of, i
 use Rattle.bgp_guard.specs.Hearing.{by_octet}
 use Rattle.bgp_guard.specs.Events.{stood, unreached, closed, sent, stalled, stopped, ticked}
 
--- what happens: a side stands, can't be reached, sends an octet, has closed, was sent so many octets, doesn't read any more; a second has gone by; or the
+-- what happens: a side comes up, can't be reached, sends an octet, has closed, was sent some octets, no longer reads; a second has passed; or the
 -- owner ends the session
 pub data Event : Type 0 where
   Stood : (of : Side) → Event
@@ -18,7 +18,7 @@ pub data Event : Type 0 where
   Ticked : Event
   Stopped : Event
 
--- the octets that came from a side, as far as they were taken, and those that were sent to it
+-- the octets received from a side, as far as they were consumed, and those that were sent to it
 pub record Trail : Type 0 where
   pub came : List ℕ
   pub given : List ℕ
@@ -48,7 +48,7 @@ abbrev pub life_of : Side → Rules → Seen → Life
 life_of Side.Outer rules s = record { guard = guard_of Side.Outer rules s.sight; outer = s.this; inner = s.other }
 life_of Side.Inner rules s = record { guard = guard_of Side.Inner rules s.sight; outer = s.other; inner = s.this }
 
--- ---- events, as the side sees them that they are of
+-- ---- events, as seen by the side that they concern
 
 abbrev pub by_event : (Sight → Sight) → Seen → Seen
 by_event rule s = record s { sight = rule s.sight }
@@ -84,6 +84,6 @@ abbrev pub life_behind : Life → List Event → Life
 life_behind a [] = a
 life_behind a (e ∷ later) = life_behind (happens a e) later
 
--- the life of a guard behind these events
+-- the life of a guard after these events
 abbrev pub life : Rules → List Event → Life
 life rules events = life_behind (born rules) events

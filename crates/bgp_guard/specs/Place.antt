@@ -4,18 +4,18 @@ use Rattle.bgp_numbers.specs.declared.error.TheConstants.{UNEXPECTED_IN_OPEN_SEN
 use Rattle.bgp_frame.specs.declared.kind.Kind.{Kind}
 use Rattle.bgp_guard.specs.Guard.{Sight}
 
--- both OPENs were handed on
+-- both OPENs were passed on
 abbrev pub both_open : Sight → Bool
 both_open s = is_some s.this.peer && is_some s.other.peer
 
--- an OPEN comes once, a KEEPALIVE behind both OPENs, an UPDATE behind its side's own KEEPALIVE; a NOTIFICATION at any time
+-- an OPEN comes once, a KEEPALIVE after both OPENs, an UPDATE after its side's own KEEPALIVE; a NOTIFICATION at any time
 abbrev pub is_misplaced : Sight → Kind → Bool
 is_misplaced s Kind.Open = is_some s.this.peer
 is_misplaced s Kind.Update = not (both_open s && s.this.ready)
 is_misplaced s Kind.Notification = false
 is_misplaced s Kind.Keepalive = not (both_open s)
 
--- the subcode says where the side stands
+-- the subcode says the state of the side
 abbrev pub subcode_of : Sight → ℕ
 subcode_of s =
     if both_open s then (if s.this.ready then UNEXPECTED_IN_ESTABLISHED else UNEXPECTED_IN_OPEN_CONFIRM) else UNEXPECTED_IN_OPEN_SENT

@@ -1,2 +1,2 @@
--- What only private functions cite: steps of proofs, which nobody has to believe.
+-- What only private functions cite: steps of proofs, which no reader has to trust.
 pub mod Seeing

@@ -11,7 +11,7 @@ use crate::way::Way;
 use bgp_frame::{Kind, NotificationView, ShortNotification, head};
 use bgp_numbers::error;
 
-/// Puts a NOTIFICATION behind all that is on its way to a side.
+/// Queues a NOTIFICATION after all that is queued for a side.
 pub(crate) fn tell(why: NotificationView<'_>, way: &mut Way)
     requires { length way.old ≤ 65536 }
     ensures { way.new ≡ way.old ++ notice (notification_of_view why.entry) }
@@ -42,7 +42,7 @@ fn shutdown() -> ShortNotification
     ShortNotification::plain(error::CEASE, error::ADMINISTRATIVE_SHUTDOWN)
 }
 
-/// What is on its way to the other side hasn't moved for the Hold Time, or an OPEN is missing.
+/// What is queued for the other side hasn't moved for the Hold Time, or an OPEN is missing.
 pub(crate) fn expired() -> ShortNotification
     ensures { short_value result ≡ expired }
 {
@@ -63,7 +63,7 @@ pub(crate) fn unexpected(subcode: u8, kind: Kind) -> ShortNotification
     ShortNotification::with_octet(error::FINITE_STATE_MACHINE, subcode, kind as u8)
 }
 
-/// Tells a side that the OPENs have had their time.
+/// Answers a side at the OPEN timeout.
 pub(crate) fn tell_late(line: &mut Line)
     requires { length line.old.way ≤ 65536 }
     ensures { (held : List ℕ) → half_with held line.new ≡ told_late (half_with held line.old) }
@@ -75,7 +75,7 @@ pub(crate) fn tell_late(line: &mut Line)
     tell(why.view(), &mut line.way);
 }
 
-/// Tells a side that stands that the owner ends the session. One that doesn't gets nothing.
+/// Sends a side that is up that the owner ends the session. One that isn't gets nothing.
 pub(crate) fn dismiss(line: &mut Line)
     requires { length line.old.way ≤ 65536 }
     ensures { (held : List ℕ) → half_with held line.new ≡ dismissed (half_with held line.old) }
@@ -87,7 +87,7 @@ pub(crate) fn dismiss(line: &mut Line)
     }
 }
 
-/// Tells both sides why, and ends.
+/// Sends each side its NOTIFICATION, and ends.
 fn answer(
     why: NotificationView<'_>,
     others: ShortNotification,
@@ -110,7 +110,7 @@ fn answer(
     }
 }
 
-/// Tells a side how it erred, and the other that there was a reset.
+/// Sends a side its error, and the other that there was a reset.
 pub(crate) fn reset(
     why: NotificationView<'_>,
     stage: &mut Stage,
@@ -126,7 +126,7 @@ pub(crate) fn reset(
     answer(why, reset_over(), stage, this, other)
 }
 
-/// Tells both sides that there is no session for them.
+/// Sends both sides that there is no session for them.
 pub(crate) fn reject(stage: &mut Stage, this: &mut Line, other: &mut Line) -> Came
     requires room { length this.old.way ≤ 65536 }
     requires others_room { length other.old.way ≤ 65536 }

@@ -1,22 +1,23 @@
-//! What came of octets.
+//! The result of received octets.
 
 use bgp_frame::Kind;
 
-/// What came of the octets that a side sent.
+/// The result of the octets that a side sent.
 #[derive(Clone, Copy, Debug, PartialEq, Eq)]
 pub enum Came {
     /// No message is whole yet, or nothing is read of the side.
     Nothing,
-    /// Nothing was handed on of a message of this kind: an UPDATE that says nothing once it is cleaned, or whose routes stay inside.
+    /// Nothing was passed on of a message of this kind: an UPDATE that has no routes once it is cleaned, or whose
+    /// routes stay inside.
     Dropped {
-        /// The kind of the message that came.
+        /// The kind of the received message.
         kind: Kind,
     },
-    /// A message of this kind was handed on: as it came, or changed.
+    /// A message of this kind was passed on: unchanged, or changed.
     HandedOn {
-        /// The kind of the message that came.
+        /// The kind of the received message.
         kind: Kind,
-        /// Whether what was handed on has the same octets.
+        /// Whether what was passed on has the same octets.
         same: bool,
     },
     /// The side was answered by a NOTIFICATION of this code and subcode, and the guard has ended.

@@ -1,4 +1,4 @@
-//! Events that bring no octets, as one side sees them.
+//! Events without octets, as one side sees them.
 
 ghost use Rattle.std.specs.Prelude.{◌≡◌, ◌≤◌, length, true};
 ghost use Rattle.bgp_frame.specs.Prelude.{short_value, Waits};
@@ -9,7 +9,7 @@ use crate::line::Half;
 use crate::stage::{DRAIN_SECONDS, Stage};
 use bgp_frame::ShortNotification;
 
-/// A side gets nothing more, and the other is told why.
+/// A side gets nothing more, and the other is sent the reason.
 fn cut(why: ShortNotification, stage: &mut Stage, this: &mut Half, other: &mut Half)
     requires { length other.old.line.way ≤ 65536 }
     ensures after { sight_of stage.new this.new other.new ≡ cut_if true (short_value why) (sight_of stage.old this.old other.old) }
@@ -21,7 +21,7 @@ fn cut(why: ShortNotification, stage: &mut Stage, this: &mut Half, other: &mut H
     *stage = Stage::Ends(DRAIN_SECONDS);
 }
 
-/// A side that doesn't stand can't be reached.
+/// A side that isn't up can't be reached.
 pub(crate) fn unreachable(stage: &mut Stage, this: &mut Half, other: &mut Half)
     requires room { HasRoom stage.old this.old.line.way }
     requires others_room { HasRoom stage.old other.old.line.way }
@@ -37,7 +37,7 @@ pub(crate) fn unreachable(stage: &mut Stage, this: &mut Half, other: &mut Half)
     }
 }
 
-/// What is on its way to a side hasn't moved for the Hold Time.
+/// What is queued for a side hasn't moved for the Hold Time.
 pub(crate) fn stall(stage: &mut Stage, this: &mut Half, other: &mut Half)
     requires room { HasRoom stage.old this.old.line.way }
     requires others_room { HasRoom stage.old other.old.line.way }

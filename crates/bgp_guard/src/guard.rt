@@ -20,14 +20,17 @@ use bgp_open::Peer;
 use std::alloc::{AllocError, Global};
 use std::marker::Model;
 
-/// The guard between an outer peer and an inner speaker, of one session. What a side sends is handed on cleaned, in the context that both OPENs agree
-/// on; a message that can't be is answered, and ends the session of both (RFC 7606; RFC 4271).
+/// The guard between an outer peer and an inner speaker, of one session. What a side sends is passed on cleaned, in the
+/// context that both OPENs agree on; a message that can't be is answered, and ends the session of both (RFC 7606; RFC
+/// 4271).
 ///
-/// Its owner has the connections and the clock. It calls [`stood`](Guard::stood) once a side stands, passes what comes to [`hear`](Guard::hear) while the
-/// guard [`listens`](Guard::listens), sends what is on its [`way`](Guard::way) and says so by [`sent`](Guard::sent), calls [`tick`](Guard::tick) each
-/// second, and closes a side where the guard [`closes`](Guard::closes) it.
+/// Its owner has the connections and the clock. It calls [`stood`](Guard::stood) once a side is up, passes received
+/// octets to [`hear`](Guard::hear) while the guard [`listens`](Guard::listens), sends what is queued
+/// ([`way`](Guard::way)) and reports that by [`sent`](Guard::sent), calls [`tick`](Guard::tick) each second, and closes
+/// a side where the guard [`closes`](Guard::closes) it.
 ///
-/// It holds at most one message of each side and 68 KB on the way to each, in memory that is taken at once: no other call takes any.
+/// It holds at most one message of each side and 68 KB queued for each, in memory that `new` allocates: no other call
+/// allocates.
 #[derive(Drop)]
 pub struct Guard {
     rules: Rules,
@@ -49,7 +52,7 @@ impl Model for Guard {
 }
 
 impl Guard {
-    /// A guard of which neither side stands yet.
+    /// A guard of which neither side is up yet.
     ///
     /// # Errors
     /// `AllocError` where an allocation failed.
@@ -66,7 +69,7 @@ impl Guard {
         })
     }
 
-    /// The connection of a side stands.
+    /// The connection of a side is up.
     pub fn stood(&mut self, side: Side)
         ensures { self.new ≡ for_side stood side self.old }
     {
@@ -76,7 +79,7 @@ impl Guard {
         }
     }
 
-    /// A side can't be reached. The other is told (6/5), and the guard ends; a side that stands is reached.
+    /// A side can't be reached. The other is sent 6/5, and the guard ends; no effect on a side that is up.
     pub fn unreachable(&mut self, side: Side)
         ensures { self.new ≡ for_side unreached side self.old }
     {
@@ -86,7 +89,7 @@ impl Guard {
         }
     }
 
-    /// A side has closed its connection, or lost it. The guard ends, and the other side gets what is on its way.
+    /// A side has closed its connection, or lost it. The guard ends, and the other side gets what is queued for it.
     pub fn closed(&mut self, side: Side)
         ensures { self.new ≡ for_side closed side self.old }
     {
@@ -96,8 +99,8 @@ impl Guard {
         }
     }
 
-    /// The octets on their way to a side haven't moved for [`stall_seconds`](Guard::stall_seconds). They are dropped, the other side is told (4/0), and the
-    /// guard ends.
+    /// The octets queued for a side haven't moved for [`stall_seconds`](Guard::stall_seconds). They are dropped, the
+    /// other side is sent 4/0, and the guard ends.
     pub fn stalled(&mut self, side: Side)
         ensures { self.new ≡ for_side stalled side self.old }
     {
@@ -107,7 +110,8 @@ impl Guard {
         }
     }
 
-    /// For how many seconds octets on their way to a side may stand still: the Hold Time that both OPENs agree on, 240 where that is 0 or an OPEN is missing.
+    /// For how many seconds octets queued for a side may stay unsent: the Hold Time that both OPENs agree on, 240 where
+    /// that is 0 or an OPEN is missing.
     pub fn stall_seconds(&self) -> u16
         ensures { result ≡ stall_seconds self.now }
     {
@@ -117,7 +121,7 @@ impl Guard {
         }
     }
 
-    /// The owner ends the session. Each side that stands is told (6/2), behind what is on its way, and the guard ends.
+    /// The owner ends the session. Each side that is up is sent 6/2, after what is queued for it, and the guard ends.
     pub fn stop(&mut self)
         ensures { self.new ≡ stopped self.old }
     {
@@ -141,7 +145,8 @@ impl Guard {
         }
     }
 
-    /// Whether octets of a side are read: while messages are handed on, it stands, and there is room on the way to the other.
+    /// Whether octets of a side are read: while messages are passed on, it is up, and there is room in the queue for
+    /// the other.
     pub fn listens(&self, side: Side) -> bool
         ensures { result ≡ listens side self.now }
     {
@@ -151,8 +156,8 @@ impl Guard {
         }
     }
 
-    /// Takes octets of a side up to the end of a message: each is cleaned and handed on, or answered. Answers how many octets it took, none where the
-    /// side isn't read, and what came of them; who has more calls it again.
+    /// Consumes octets of a side up to the end of a message: each is cleaned and passed on, or answered. Answers the
+    /// number of octets consumed, none where the side isn't read, and the result; call it again while octets remain.
     pub fn hear(&mut self, side: Side, piece: &[u8]) -> (usize, Came)
         ensures { IsHeard side self.old piece.now result.0 result.1 self.new }
     {
@@ -177,7 +182,7 @@ impl Guard {
         }
     }
 
-    /// The octets that are on their way to a side.
+    /// The octets queued for a side.
     pub fn way(&self, side: Side) -> &[u8]
         ensures { result.now ≡ (half side self.now).way }
     {
@@ -187,7 +192,7 @@ impl Guard {
         }
     }
 
-    /// So many of the octets on their way to a side are sent: all of them where there are no more.
+    /// `count` of the octets queued for a side are sent: all of them where there are fewer.
     pub fn sent(&mut self, side: Side, count: usize)
         ensures { self.new ≡ for_side (sent count) side self.old }
     {
@@ -197,7 +202,8 @@ impl Guard {
         }
     }
 
-    /// Whether a side is to be closed, or no longer sought: the guard has ended, and nothing is on its way to the side, or that had its 10 seconds.
+    /// Whether a side is to be closed, or no longer sought: the guard has ended, and nothing is queued for the side, or
+    /// its 10 seconds are over.
     pub fn closes(&self, side: Side) -> bool
         ensures { result ≡ closes side self.now }
     {
@@ -208,7 +214,7 @@ impl Guard {
         }
     }
 
-    /// What the OPEN of a side says, once it was handed on.
+    /// What the OPEN of a side says, once it was passed on.
     pub fn peer(&self, side: Side) -> Option<&Peer>
         ensures { option_map (λ p. said_of p.now) result ≡ (half side self.now).peer }
     {
@@ -218,7 +224,7 @@ impl Guard {
         }
     }
 
-    /// A second has gone by.
+    /// A second has passed.
     pub fn tick(&mut self)
         ensures { self.new ≡ ticked self.old }
     {
@@ -229,7 +235,7 @@ impl Guard {
         }
     }
 
-    // Whether an OPEN is waited for.
+    // Whether an OPEN is missing while a side is up.
     fn waits(&self) -> bool
         ensures { result ≡ is_waiting self.now }
     {
@@ -237,7 +243,7 @@ impl Guard {
         any && !(self.outer.line.peer.is_some() && self.inner.line.peer.is_some())
     }
 
-    // Puts KEEPALIVEs on the way to the sides of an established session where they are due.
+    // Queues KEEPALIVEs for the sides of an established session where they are due.
     fn keep_alive(&mut self)
         requires { runs self.old.stage ≡ true }
         ensures { self.new ≡ kept_alive self.old }
@@ -249,7 +255,7 @@ impl Guard {
         }
     }
 
-    // A second more has gone by in which an OPEN was waited for.
+    // One more second has passed in which an OPEN was missing.
     fn wait(&mut self, gone: u8)
         requires { self.old.stage ≡ Stage.Runs gone }
         ensures { self.new ≡ waited gone true self.old }

@@ -1,4 +1,4 @@
-//! Handing a message on.
+//! Passing a message on.
 
 ghost use Rattle.std.specs.Prelude.{◌≡◌, ◌+◌, ◌<◌, ◌≤◌, ◌++◌, ℕ, List, false, length, drop, option_map};
 ghost use Rattle.bgp_wire.specs.Prelude.{AreOctets};
@@ -23,7 +23,7 @@ use bgp_open::{Context, Peer, agreed_context, view_open};
 use bgp_update::UpdateView;
 use bgp_wire::Page;
 
-/// Where not both OPENs were handed on: only messages are judged whose outcome is the same in any context.
+/// Until both OPENs were passed on: only messages are judged then whose outcome is the same in any context.
 const NO_CONTEXT: Context = Context {
     internal: false,
     as4: false,
@@ -92,7 +92,7 @@ fn misplaced(this: &Line, other: &Line, kind: Kind) -> Option<u8>
     }
 }
 
-/// What an OPEN says that is handed on.
+/// What a passed-on OPEN says.
 fn peer_of(whole: &[u8]) -> Option<Peer>
     requires { 29 ≤ length whole.now }
     ensures { option_map said_of result ≡ said_in (reading_of (drop 19 whole.now)) }
@@ -103,10 +103,11 @@ fn peer_of(whole: &[u8]) -> Option<Peer>
     }
 }
 
-/// The octets of an UPDATE, at least.
+/// The least length of an UPDATE.
 const UPDATE_LEN: usize = 23;
 
-/// Whether nothing is handed on of a message that was cleaned: of an UPDATE whose routes stay inside, or in whose place a KEEPALIVE stands.
+/// Whether nothing is passed on of a message that was cleaned: of an UPDATE whose routes stay inside, or that a
+/// KEEPALIVE replaces.
 fn is_dropped(silent: bool, kind: Kind, cleaned: &[u8]) -> bool
     ensures { (ns : List Message) → IsReadIn kind ns cleaned.now → result ≡ is_dropped (said_as silent kind ns) }
 {
@@ -116,7 +117,7 @@ fn is_dropped(silent: bool, kind: Kind, cleaned: &[u8]) -> bool
     }
 }
 
-/// Puts a message behind all that is on its way to a side.
+/// Queues a message after all that is queued for a side.
 fn put_on(cleaned: &[u8], line: &mut Line)
     requires { length line.old.way + length cleaned.now ≤ WAY_MAX }
     ensures handed { (held : List ℕ) (ctx : Context) (ns : List Message) → 0 < length ns → cleaned.now ≡ octets_handed ctx ns → half_with held line.new ≡ handed_to ctx ns (half_with held line.old) }
@@ -127,7 +128,7 @@ fn put_on(cleaned: &[u8], line: &mut Line)
     line.owed = false;
 }
 
-/// Where a guard and a side stand behind a message that is handed on.
+/// The state of a guard and a side after a message that is passed on.
 fn go_on(kind: Kind, cleaned: &[u8], stage: &mut Stage, this: &mut Line)
     requires { CanBeRead kind cleaned.now }
     ensures stage { stage.new ≡ stage_behind kind stage.old }
@@ -142,7 +143,7 @@ fn go_on(kind: Kind, cleaned: &[u8], stage: &mut Stage, this: &mut Line)
     }
 }
 
-/// Hands on what was cleaned of a whole message.
+/// Passes on the cleaned form of a whole message.
 fn hand_on(
     silent: bool,
     kind: Kind,
@@ -173,7 +174,7 @@ fn hand_on(
     }
 }
 
-/// Answers a message of which nothing is handed on.
+/// Answers a message of which nothing is passed on.
 fn refuse(
     ctx: &Context,
     frame: Frame<'_>,
@@ -230,7 +231,7 @@ fn first_as_in(rules: &Rules, ctx: &Context, peer: &Option<Peer>) -> Option<u32>
     }
 }
 
-/// What the owner asks of the announcements of a side, in a context and by what its OPEN says.
+/// What the owner requires of the announcements of a side, in a context and by what its OPEN says.
 fn limits_in(rules: &Rules, ctx: &Context, peer: &Option<Peer>) -> Limits
     ensures { result ≡ limits_in rules.now ctx.now (option_map said_of peer.now) }
 {
@@ -241,7 +242,7 @@ fn limits_in(rules: &Rules, ctx: &Context, peer: &Option<Peer>) -> Limits
     }
 }
 
-/// Cleans a whole message that is in its place, and hands it on or answers it.
+/// Cleans a whole message that is in place, and passes it on or answers it.
 fn pass(
     rules: &Rules,
     silent: bool,
@@ -285,12 +286,12 @@ fn pass(
             )
         }
         Ok(Cleaned::Ends(_)) => refuse(&ctx, frame, stage, this, other),
-        // There is room for each message.
+        // Doesn't happen: there is room for each message.
         Err(_) => Came::Nothing,
     }
 }
 
-/// Hands a whole message on, or answers it.
+/// Passes a whole message on, or answers it.
 pub(crate) fn take(
     rules: &Rules,
     silent: bool,

@@ -23,7 +23,7 @@ pub(crate) fn listens(stage: Stage, this: &Half, other: &Half) -> bool
     }
 }
 
-/// What comes of the octets that are held: where they are whole, nothing is held behind it.
+/// The result of the octets that are held: where they are whole, nothing is held after it.
 fn settle(rules: &Rules, silent: bool, stage: &mut Stage, this: &mut Half, other: &mut Half) -> Came
     requires can_hold { IsHeld this.old.framer }
     requires room { length this.old.line.way ≤ 65536 }
@@ -57,7 +57,7 @@ fn settle(rules: &Rules, silent: bool, stage: &mut Stage, this: &mut Half, other
     }
 }
 
-/// Reads octets of a side up to the end of a message. Answers how many it took, and what came of them.
+/// Reads octets of a side up to the end of a message. Answers the number consumed, and the result.
 pub(crate) fn hear(
     rules: &Rules,
     silent: bool,

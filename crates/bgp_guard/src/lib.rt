@@ -1,5 +1,6 @@
-//! The guard between two speakers: what each of them sends is handed on cleaned, so that no octet reaches the other but in canonical form
-//! (RFC 7606; RFC 4271). It does no IO and knows no time: its owner tells it what happens, and sends what stands on the way to a side.
+//! The guard between two speakers: what each of them sends is passed on cleaned, so that octets reach the other only in
+//! canonical form (RFC 7606; RFC 4271). It does no IO and knows no time: its owner reports what happens to it, and
+//! sends what is queued for a side.
 #![tactic(auto)]
 
 mod answers;

@@ -8,34 +8,34 @@ use bgp_frame::Framer;
 use bgp_open::Peer;
 use std::alloc::{AllocError, Global};
 
-/// All but the octets that came of an incomplete message.
+/// All but the octets of an incomplete message.
 #[derive(Drop)]
 pub(crate) struct Line {
-    /// Whether the connection stands.
+    /// Whether the connection is up.
     pub(crate) stands: bool,
-    /// What its OPEN says, once that was handed on.
+    /// What its OPEN says, once that was passed on.
     pub(crate) peer: Option<Peer>,
-    /// Whether its KEEPALIVE was handed on.
+    /// Whether its KEEPALIVE was passed on.
     pub(crate) ready: bool,
-    /// What is on its way to the side.
+    /// The octets queued for the side.
     pub(crate) way: Way,
-    /// How many seconds of an established session nothing was handed on to it.
+    /// For how many seconds of an established session nothing was passed on to it.
     pub(crate) quiet: u16,
-    /// A message was dropped on the way to it, and nothing handed on since.
+    /// A message to it was dropped, and nothing passed on since.
     pub(crate) owed: bool,
 }
 
 /// What is kept of a side.
 #[derive(Drop)]
 pub(crate) struct Half {
-    /// What came of an incomplete message.
+    /// The octets of an incomplete message.
     pub(crate) framer: Framer,
     /// All else.
     pub(crate) line: Line,
 }
 
 impl Half {
-    /// A side that doesn't stand yet.
+    /// A side that isn't up yet.
     ///
     /// # Errors
     /// `AllocError` where an allocation failed.

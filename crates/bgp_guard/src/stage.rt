@@ -1,16 +1,17 @@
-//! Where a guard stands.
+//! The stages of a guard.
 
-/// How many seconds each side has for its OPEN, from when the first side stood (RFC 4271, section 8.2.2: "a large value").
+/// How many seconds each side has for its OPEN, from when the first side came up (RFC 4271, section 8.2.2: "a large
+/// value").
 pub const OPEN_SECONDS: u8 = 240;
 
-/// How many seconds what is on its way has once the guard has ended.
+/// For how many seconds queued octets may still be sent once the guard has ended.
 pub const DRAIN_SECONDS: u8 = 10;
 
-/// Where a guard stands.
+/// The stage of a guard.
 #[derive(Clone, Copy, PartialEq, Eq)]
 pub(crate) enum Stage {
-    /// Messages are handed on; so many seconds have gone by since the first side stood, while an OPEN is missing.
+    /// Messages are passed on; the seconds since the first side came up, while an OPEN is missing.
     Runs(u8),
-    /// Nothing is read any more; what is on its way has so many seconds.
+    /// Nothing is read any more; the seconds left for queued octets.
     Ends(u8),
 }

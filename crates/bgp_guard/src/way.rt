@@ -1,4 +1,4 @@
-//! What is on its way to a side.
+//! The queue of octets for a side.
 
 ghost use Rattle.std.specs.Prelude.{◌≡◌, ◌+◌, ◌-◌, ◌≤◌, ◌++◌, [], length, take, drop, IfOk};
 ghost use Rattle.std.specs.List.{slice_range};
@@ -6,13 +6,13 @@ ghost use Rattle.std.specs.List.{slice_range};
 use std::alloc::{AllocError, Global};
 use std::marker::Model;
 
-/// With so many octets on their way to a side, or fewer, the other side is read.
+/// With this many octets queued for a side, or fewer, the other side is read.
 pub const ROOM: usize = 53248;
 
-/// At most so many octets are on their way to a side: 64 KB of messages, and a NOTIFICATION after them.
+/// At most this many octets are queued for a side: 64 KB of messages, and a NOTIFICATION after them.
 pub const WAY_MAX: usize = 69632;
 
-/// The octets that are on their way to a side, in memory that is taken once.
+/// The octets queued for a side, in memory that is allocated once.
 #[derive(Drop)]
 pub(crate) struct Way {
     octets: Vec<u8>,
@@ -32,7 +32,7 @@ impl Model for Way {
 }
 
 impl Way {
-    /// With nothing on it.
+    /// Empty.
     ///
     /// # Errors
     /// `AllocError` where an allocation failed.
@@ -46,7 +46,7 @@ impl Way {
         })
     }
 
-    /// How many octets are on it.
+    /// The number of octets.
     pub(crate) fn len(&self) -> usize
         ensures value { result ≡ length self.now }
         ensures bound { result ≤ WAY_MAX }
@@ -61,7 +61,7 @@ impl Way {
         &self.octets[self.start..self.end]
     }
 
-    /// Takes so many octets off its front: all of them where there are no more.
+    /// Removes the first `n` octets: all of them where there are fewer.
     pub(crate) fn take_off(&mut self, n: usize)
         ensures { self.new ≡ drop n self.old }
     {
@@ -72,7 +72,7 @@ impl Way {
         }
     }
 
-    /// Takes all octets off.
+    /// Removes all octets.
     pub(crate) fn clear(&mut self)
         ensures { self.new ≡ [] }
     {
@@ -80,7 +80,7 @@ impl Way {
         self.end = 0;
     }
 
-    /// Puts octets behind the others.
+    /// Appends octets.
     pub(crate) fn put(&mut self, octets: &[u8])
         requires { length self.old + length octets.now ≤ WAY_MAX }
         ensures { self.new ≡ self.old ++ octets.now }
@@ -91,7 +91,7 @@ impl Way {
     }
 }
 
-/// Puts octets into the room from `end` on.
+/// Writes octets into the room from `end` on.
 fn overwrite(room: &mut [u8], end: usize, octets: &[u8])
     requires { end + length octets.now ≤ length room.old }
     ensures { room.new ≡ take end room.old ++ (octets.now ++ drop (end + length octets.now) room.old) }
@@ -100,7 +100,8 @@ fn overwrite(room: &mut [u8], end: usize, octets: &[u8])
     room[end..last].copy_from_slice(octets);
 }
 
-/// Puts octets behind those from `start` to `end`, which are moved to the front where there is no room behind them. Answers where all of them stand.
+/// Appends octets to those from `start` to `end`, which are moved to the beginning where there is no room after them.
+/// Answers the range of all of them.
 fn put_in(room: &mut [u8], start: usize, end: usize, octets: &[u8]) -> (usize, usize)
     requires order { start ≤ end }
     requires within { end ≤ length room.old }

@@ -5,7 +5,7 @@ ghost use Rattle.std.specs.Prelude.{◌+◌, ◌≤◌, length};
 use libc::net as c;
 use std::net::{SocketAddr, SocketAddrV4, SocketAddrV6};
 
-/// The octets of an address, and how many of them C reads.
+/// The octets of an address, and the number of them that C reads.
 #[derive(Clone, Copy)]
 pub(crate) struct RawAddress {
     pub(crate) octets: [u8; c::_SS_SIZE],
@@ -18,7 +18,7 @@ const V4_LEN: u32 = 16;
 /// The octets of C's `sockaddr_in6`.
 const V6_LEN: u32 = 28;
 
-// Puts octets into those of an address.
+// Writes octets into those of an address.
 fn put(address: &mut [u8; c::_SS_SIZE], at: usize, octets: &[u8])
     requires { at + length octets.now ≤ 128 }
 {
@@ -49,7 +49,7 @@ fn raw_v6(address: SocketAddrV6) -> [u8; c::_SS_SIZE] {
     octets
 }
 
-/// An address as C takes it.
+/// An address in C's form.
 pub(crate) fn raw(address: SocketAddr) -> RawAddress
     ensures { result.len ≤ 128 }
 {

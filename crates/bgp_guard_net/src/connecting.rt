@@ -10,7 +10,7 @@ use std::io;
 use std::net::{IpAddr, Net, SocketAddr};
 use std::os::fd::{AsRawFd, OwnedFd};
 
-/// The error of the call that has just answered this, where it is negative.
+/// The error of the last call, where its status is negative.
 pub(crate) fn check(status: i32) -> io::Result<()>
     ensures { IsOk result ↔ (pos 0 ≤ℤ status) }
 {
@@ -21,7 +21,7 @@ pub(crate) fn check(status: i32) -> io::Result<()>
     }
 }
 
-// A socket for TCP that doesn't wait, of the family of an address.
+// A non-blocking TCP socket, of the family of an address.
 fn socket_for(address: SocketAddr) -> io::Result<OwnedFd> {
     let kind = c::SOCK_STREAM | c::SOCK_NONBLOCK | c::SOCK_CLOEXEC;
     let socket = match address {
@@ -32,14 +32,14 @@ fn socket_for(address: SocketAddr) -> io::Result<OwnedFd> {
     Ok(unsafe { OwnedFd::from_raw_fd(socket) })
 }
 
-// Gives a socket its own address, of which the system chooses the port.
+// Binds a socket to a local address; the system chooses the port.
 fn bind(socket: &OwnedFd, source: IpAddr) -> io::Result<()> {
     let source = raw(SocketAddr::new(source, 0));
     check(unsafe { c::bind(socket.as_raw_fd(), &source.octets, source.len) })
 }
 
-/// Begins to connect from an address of this machine, of the family of the other one, and returns at once. What comes of it is asked as behind
-/// [`TcpStream::connect`].
+/// Begins to connect from an address of this machine, of the same family as the other one, and returns at once. The
+/// result is found as after [`TcpStream::connect`].
 ///
 /// # Errors
 /// That of the system, as where the address isn't this machine's.

@@ -1,5 +1,5 @@
-//! What `mio` has no call for, over the kit's calls of C: a connection from an address that the caller chooses, TCP's questions to a silent end, and whether
-//! a descriptor has room or octets.
+//! What `mio` has no call for, over the kit's calls of C: a connection from an address that the caller chooses, TCP
+//! keepalives, and whether a descriptor is ready to write or to read.
 #![tactic(auto)]
 
 mod address;

@@ -1,4 +1,4 @@
-//! Options of a connection, and whether a descriptor has room.
+//! Options of a connection, and whether a descriptor is ready.
 
 use crate::connecting::check;
 use libc::net as c;
@@ -7,23 +7,23 @@ use mio::net::TcpStream;
 use std::io;
 use std::os::fd::{AsRawFd, RawFd};
 
-/// After so many seconds of silence TCP asks whether the other end is there.
+/// After this many seconds of silence TCP sends a keepalive probe.
 const IDLE_SECONDS: i32 = 90;
 
-/// So many seconds are between two of its questions.
+/// The seconds between two probes.
 const PROBE_SECONDS: i32 = 30;
 
-/// After so many without an answer the connection has failed.
+/// After this many unanswered probes the connection has failed.
 const PROBES: i32 = 3;
 
-// A value as C takes it.
+// A value in C's form.
 fn value(number: i32) -> [u8; 16] {
     let mut octets = [0_u8; 16];
     octets[..4].copy_from_slice(&number.to_ne_bytes());
     octets
 }
 
-/// Has TCP ask an end that is silent whether it is there: one that has vanished is found within 3 minutes.
+/// Turns on TCP keepalives: an end that has vanished is found within 3 minutes.
 ///
 /// # Errors
 /// That of the system.
@@ -36,7 +36,7 @@ pub fn probe(stream: &TcpStream) -> io::Result<()> {
     check(unsafe { c::setsockopt(fd, tcp, c::TCP_KEEPCNT, &value(PROBES), 4) })
 }
 
-// Of these events those that are there for a descriptor by now, or that it has failed or ended.
+// Those of these events for which a descriptor is ready now, or that it has failed or ended.
 fn ready(fd: RawFd, events: i16) -> i16 {
     let mut fds = [pollfd {
         fd,
@@ -48,12 +48,12 @@ fn ready(fd: RawFd, events: i16) -> i16 {
     found.revents
 }
 
-/// Whether a short line can be written to a descriptor without waiting, and somebody may read it.
+/// Whether a short line can be written to a descriptor without blocking, and its other end is open.
 pub fn has_room(fd: RawFd) -> bool {
     ready(fd, c::POLLOUT) & (c::POLLOUT | c::POLLERR) == c::POLLOUT
 }
 
-/// Whether reading a descriptor doesn't wait: octets are there, or nothing comes any more.
+/// Whether reading a descriptor doesn't block: it has octets, or has ended.
 pub fn has_input(fd: RawFd) -> bool {
     ready(fd, c::POLLIN) != 0
 }

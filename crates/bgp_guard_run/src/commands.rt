@@ -8,7 +8,7 @@ use std::alloc::{AllocError, Global};
 /// The program's name.
 pub(crate) const NAME: &str = "bgp_guard_run";
 
-/// The flags, with what stands behind them, and their help.
+/// The flags, with their arguments and their help.
 const FLAGS: [(&str, Behind, &str); 22] = [
     (
         "listen",

@@ -21,29 +21,29 @@ use std::io;
 use std::io::{ErrorKind, Read, Write};
 use std::net::Shutdown;
 
-/// Where the code of a NOTIFICATION stands in it.
+/// The offset of the error code in a NOTIFICATION.
 const CODE_AT: usize = 19;
 
-/// Where a connection stands.
+/// The state of a connection.
 #[derive(Clone, Copy, PartialEq, Eq)]
 enum Phase {
-    /// It is sought.
+    /// It is being made.
     Sought,
     /// Octets go both ways.
     Stands,
-    /// Nothing more is sent. What still comes is read for so many seconds, since TCP resets a connection that is closed before, and may lose what was
-    /// sent.
+    /// Nothing more is sent. What still arrives is read for this many seconds, since TCP resets a connection that is
+    /// closed earlier, and may lose what was sent.
     Lingers(u8),
     /// It is closed.
     Gone,
 }
 
-/// What came of reading.
+/// The result of reading.
 #[derive(Drop)]
 enum Brought {
-    /// The guard took so many octets, and this came of them.
+    /// The number of octets that the guard consumed, and their result.
     Octets(usize, Came),
-    /// None by now.
+    /// Nothing for now.
     Nothing,
     /// The side closed the connection.
     End,
@@ -51,7 +51,7 @@ enum Brought {
     Fault(io::Error),
 }
 
-/// The connection of one side, and what was read of it that the guard hasn't taken.
+/// The connection of one side, and the octets read from it that the guard hasn't consumed.
 #[derive(Drop)]
 pub(crate) struct Connection {
     side: Side,
@@ -66,22 +66,22 @@ pub(crate) struct Connection {
     /// The side sends no more, or the connection has failed: what it sent before may still be read.
     is_hung: bool,
     has_failed: bool,
-    /// Octets were sent to it in this second.
+    /// Octets were sent to it in the current second.
     has_moved: bool,
-    /// At so many ends of a second in a row octets were on their way to it, and none was sent in that second.
+    /// The number of seconds in a row at whose end octets were queued for it, and in which none was sent.
     still: u16,
     piece: Piece,
-    /// The octets that the guard has taken of the message that isn't whole yet.
+    /// The octets that the guard has consumed of the incomplete message.
     message: Vec<u8>,
-    /// How many octets of the side the guard has taken.
+    /// The number of octets of the side that the guard has consumed.
     heard: u64,
-    /// Where the message begins that isn't whole yet.
+    /// The offset where the incomplete message begins.
     begun: u64,
-    /// A KEEPALIVE of it was handed on.
+    /// A KEEPALIVE from it was passed on.
     pub(crate) is_ready: bool,
 }
 
-// The code and the subcode of the NOTIFICATION that was put behind so many octets of a way.
+// The code and the subcode of the NOTIFICATION that was queued after the first `before` octets.
 fn code_in(way: &[u8], before: usize) -> Option<Code> {
     match way.get(before..)?.get(CODE_AT..)? {
         [code, subcode, ..] => Some(Code {
@@ -92,7 +92,7 @@ fn code_in(way: &[u8], before: usize) -> Option<Code> {
     }
 }
 
-// Writes once of what is on its way to a side. What was written is on its way no more, and all else stays.
+// Writes once from the queue for a side. What was written leaves the queue, and all else is unchanged.
 fn pass_on<W: Write>(guard: &mut Guard, side: Side, to: &mut W) -> io::Result<usize>
     ensures written { WriteAppends (W.contents to.old) (W.contents to.new) result (half side guard.old).way }
     ensures sent { IfOk result (λ n. guard.new ≡ for_side (sent n) side guard.old) }
@@ -103,7 +103,7 @@ fn pass_on<W: Write>(guard: &mut Guard, side: Side, to: &mut W) -> io::Result<us
     Ok(count)
 }
 
-// Keeps octets that the guard has taken, for the log: without memory for them it has none.
+// Keeps octets that the guard has consumed, for the log: where the allocation fails it has none.
 fn keep(message: &mut Vec<u8>, octets: &[u8], count: usize) {
     let kept = match octets.get(..count) {
         Some(octets) => message.extend_from_slice(octets).is_ok(),
@@ -114,7 +114,7 @@ fn keep(message: &mut Vec<u8>, octets: &[u8], count: usize) {
     }
 }
 
-// Hands the guard what was read of a side, up to the end of a message. What it took is left no more.
+// Passes the guard what was read of a side, up to the end of a message, and removes what it consumed.
 fn hear_once(
     guard: &mut Guard,
     side: Side,
@@ -130,8 +130,8 @@ fn hear_once(
     (taken, came)
 }
 
-// Reads once where nothing is left of what was read before, and hands the guard what there is, up to the end of a message. Answers how many octets were
-// read, how many the guard took, and what came of them.
+// Reads once where nothing remains of what was read before, and passes the guard what there is, up to the end of a
+// message. Answers the number of octets read, the number that the guard consumed, and their result.
 fn read_and_hear<R: Read>(
     guard: &mut Guard,
     side: Side,
@@ -193,7 +193,7 @@ impl Connection {
         Connection::new(alloc, side, drops, Some(stream), Phase::Stands)
     }
 
-    /// One that is sought: none where that failed at once.
+    /// One that is being made: none where that failed at once.
     ///
     /// # Errors
     /// `AllocError` where an allocation failed.
@@ -210,7 +210,7 @@ impl Connection {
         Connection::new(alloc, side, drops, stream, phase)
     }
 
-    /// What an event tells of it.
+    /// Records an event of it.
     pub(crate) fn wake(&mut self, event: &Event) {
         let failed = event.is_error();
         self.is_hung = self.is_hung || event.is_read_closed();
@@ -234,14 +234,14 @@ impl Connection {
         self.phase = Phase::Gone;
     }
 
-    // It is over: the guard hears of it.
+    // Closes it, and reports that to the guard.
     fn lose(&mut self, guard: &mut Guard, why: Why) -> Option<Why> {
         self.close();
         guard.closed(self.side);
         Some(why)
     }
 
-    // Whether a connection that is sought stands by now.
+    // Whether a connection that is being made is up by now.
     fn reached(&self) -> io::Result<bool> {
         let Some(stream) = &self.stream else {
             return Ok(false);
@@ -252,7 +252,7 @@ impl Connection {
         }
     }
 
-    /// Tells the guard what came of connecting.
+    /// Reports the result of connecting to the guard.
     pub(crate) fn meet(&mut self, guard: &mut Guard) -> Option<Why> {
         if self.phase != Phase::Sought || !self.writable {
             return None;
@@ -277,7 +277,7 @@ impl Connection {
         }
     }
 
-    // Reads where nothing is left of what was read before, and hands the guard what there is.
+    // Reads where nothing remains of what was read before, and passes the guard what there is.
     fn read(&mut self, guard: &mut Guard) -> Brought {
         let Some(stream) = &mut self.stream else {
             return Brought::Nothing;
@@ -297,7 +297,8 @@ impl Connection {
         }
     }
 
-    /// Reads once where the guard listens and has taken all before, and hands it what was read until it takes nothing.
+    /// Reads once where the guard listens and has consumed all before, and passes it what was read until it consumes
+    /// nothing.
     pub(crate) fn listen(
         &mut self,
         guard: &mut Guard,
@@ -326,7 +327,8 @@ impl Connection {
         None
     }
 
-    // Tells what came of octets, where the way to the other side had so many before. Answers whether that ends the session.
+    // Logs the result of octets, where the queue for the other side had `before` octets. Answers whether that ends the
+    // session.
     fn note(
         &mut self,
         guard: &Guard,
@@ -370,7 +372,7 @@ impl Connection {
         why
     }
 
-    // The message that has come, and what it was judged by, where the way to the other side had so many octets before.
+    // The received message, and what it was judged by, where the queue for the other side had `before` octets.
     fn judged<'a>(&'a self, guard: &'a Guard, deed: Deed, before: usize) -> Judged<'a> {
         let away = self.side.other();
         let ctx = match (guard.peer(self.side), guard.peer(away)) {
@@ -402,7 +404,8 @@ impl Connection {
         io::Error::from(ErrorKind::ConnectionReset)
     }
 
-    /// Ends the session of a side that isn't read where its connection has failed, or where it hangs up and the other side takes nothing.
+    /// Ends the session of a side that isn't read where its connection has failed, or where it hangs up and the other
+    /// side reads nothing.
     pub(crate) fn miss(&mut self, guard: &mut Guard, is_other_still: bool) -> Option<Why> {
         if self.phase != Phase::Stands || guard.listens(self.side) {
             return None;
@@ -417,12 +420,12 @@ impl Connection {
         None
     }
 
-    /// Whether octets are on their way to it, and none was sent for a whole second.
+    /// Whether octets are queued for it, and none was sent for a whole second.
     pub(crate) fn is_still(&self) -> bool {
         self.still > 1
     }
 
-    /// Ends the session where octets on their way to the side have stood still for as long as they may.
+    /// Ends the session where octets queued for the side have stayed unsent for as long as they may.
     pub(crate) fn stall(&mut self, guard: &mut Guard) -> Option<Why> {
         let seconds = guard.stall_seconds();
         if guard.has_ended() || self.still <= seconds {
@@ -432,7 +435,7 @@ impl Connection {
         Some(Why::Stalled(self.side, seconds))
     }
 
-    /// Reads what comes once the session has ended, and forgets it.
+    /// Reads what arrives once the session has ended, and drops it.
     pub(crate) fn drain(&mut self, guard: &mut Guard) {
         let reads = match self.phase {
             Phase::Stands | Phase::Lingers(_) => self.readable,
@@ -448,7 +451,7 @@ impl Connection {
         }
     }
 
-    /// Sends what is on its way.
+    /// Sends what is queued for it.
     pub(crate) fn send(&mut self, guard: &mut Guard) -> Option<Why> {
         let has_way = !guard.way(self.side).is_empty();
         if self.phase != Phase::Stands || !self.writable || !has_way {
@@ -482,7 +485,7 @@ impl Connection {
         }
     }
 
-    // Tells the side that nothing more is sent.
+    // Shuts down sending to the side.
     fn shut(&mut self) {
         let shut = match &self.stream {
             Some(stream) => stream.shutdown(Shutdown::Write).is_ok(),
@@ -495,7 +498,7 @@ impl Connection {
         }
     }
 
-    /// A second has gone by.
+    /// A second has passed.
     pub(crate) fn tick(&mut self, guard: &Guard) {
         match self.phase {
             Phase::Lingers(0) => self.close(),

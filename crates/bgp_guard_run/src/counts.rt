@@ -2,33 +2,33 @@
 
 use std::fmt;
 
-/// What there was since the program began.
+/// The counts since the program began.
 #[derive(Clone, Copy)]
 pub(crate) struct Counts {
     /// Sessions that began.
     pub(crate) begun: u64,
     /// Those of them that ended.
     pub(crate) ended: u64,
-    /// Messages that were handed on.
+    /// Messages that were passed on.
     pub(crate) messages: u64,
     /// Those of them that were changed.
     pub(crate) changed: u64,
-    /// Messages of which nothing was handed on.
+    /// Messages of which nothing was passed on.
     pub(crate) dropped: u64,
     /// Messages that were answered.
     pub(crate) answered: u64,
-    /// Connections that were closed at once, since there were as many sessions as there may be.
+    /// Connections that were closed at once, since the number of sessions was at its limit.
     pub(crate) full: u64,
-    /// Connections that were closed at once, since their address had as many sessions as it may have.
+    /// Connections that were closed at once, since the number of sessions of their address was at its limit.
     pub(crate) crowded: u64,
-    /// Connections that were closed at once, since they came from no neighbour.
+    /// Connections that were closed at once, since they weren't from a neighbour.
     pub(crate) strangers: u64,
     /// Connections that were closed at once, since something failed.
     pub(crate) failed: u64,
 }
 
 impl Counts {
-    /// Nothing was.
+    /// All zero.
     pub(crate) fn new() -> Counts {
         Counts {
             begun: 0,

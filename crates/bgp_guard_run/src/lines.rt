@@ -11,7 +11,7 @@ use bgp_open::Peer;
 use std::fmt;
 use std::net::{IpAddr, Ipv4Addr, SocketAddr};
 
-/// A session, as it is named.
+/// The name of a session.
 #[derive(Clone, Copy)]
 pub(crate) struct Name {
     pub(crate) number: u64,
@@ -23,38 +23,38 @@ pub(crate) struct Name {
 #[derive(Clone, Copy)]
 pub(crate) struct Place {
     pub(crate) name: Name,
-    /// The AS of the outer peer, once its OPEN was handed on.
+    /// The AS of the outer peer, once its OPEN was passed on.
     pub(crate) outer_as: Option<u32>,
     pub(crate) side: Side,
     pub(crate) at: u64,
 }
 
-/// What is told.
+/// What is reported.
 #[derive(Clone, Copy)]
 pub(crate) enum Event<'a> {
-    /// Connections are waited for.
+    /// It listens for connections.
     Listens(SocketAddr),
     /// Counters are served.
     Serves(SocketAddr),
     /// A session begins.
     Begins(Name),
-    /// OPEN and KEEPALIVE of both sides were handed on.
+    /// OPEN and KEEPALIVE of both sides were passed on.
     IsUp(Name, &'a Peer, &'a Peer),
-    /// A message was handed on in other octets.
+    /// A message was passed on with other octets.
     Changed(Place, Kind, &'a Reasons),
-    /// Nothing was handed on of a message.
+    /// Nothing was passed on of a message.
     Dropped(Place, Kind, &'a Reasons),
     /// A side was answered.
     Answered(Place, Code, &'a Reasons),
     /// A session has ended.
     Ends(Name, &'a Why),
-    /// There are so many neighbours now, and so many sessions end.
+    /// The number of neighbours now, and of sessions that end.
     Reloads(usize, u64),
-    /// So many lines on the neighbour of a session weren't printed.
+    /// The number of lines on the neighbour of a session that weren't printed.
     More(u64, u64),
-    /// So many lines couldn't be written.
+    /// The number of lines that couldn't be written.
     Lost(u64),
-    /// What there was so far, and the stranger that came last.
+    /// The counts so far, and the last stranger that connected.
     Counts(Counts, Option<IpAddr>),
 }
 
@@ -85,7 +85,7 @@ fn kind_name(kind: Kind) -> &'static str {
 
 // ---- text
 
-// A message: with times the neighbour's address and AS too.
+// A message: where lines have times, the neighbour's address and AS too.
 fn put_place<W: fmt::Write>(
     f: &mut fmt::Formatter<W>,
     verb: &str,
@@ -120,7 +120,7 @@ fn put_message<W: fmt::Write>(
     put_reasons(f, reasons)
 }
 
-// An answer: with times what its subcode is called, and the section.
+// An answer: where lines have times, the subcode's name and the section too.
 fn put_answer<W: fmt::Write>(
     f: &mut fmt::Formatter<W>,
     place: &Place,

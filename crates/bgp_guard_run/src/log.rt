@@ -1,4 +1,5 @@
-//! What is printed. Nothing of it ends or holds up the program: a line that can't be written is counted, and told once one can.
+//! What is printed. It never ends or blocks the program: a line that can't be written is counted, and the count is
+//! printed once one can.
 
 use crate::commands::NAME;
 use crate::counts::{Counts, count};
@@ -21,7 +22,7 @@ const OUTPUT: i32 = 1;
 
 const ERRORS: i32 = 2;
 
-/// At most so many faults are told each second.
+/// At most this many faults are printed each second.
 const FAULTS: u32 = 100;
 
 /// Prints what happens, and counts it.
@@ -30,13 +31,13 @@ pub(crate) struct Log<'a> {
     rt: &'a HostRuntime,
     form: Form,
     pub(crate) counts: Counts,
-    /// The stranger that came last.
+    /// The last stranger that connected.
     stranger: Option<IpAddr>,
     talkers: Talkers,
     tallies: Tallies,
     /// Lines that couldn't be written.
     lost: u64,
-    /// Faults that were told in this second.
+    /// Faults that were printed in this second.
     faults: u32,
 }
 
@@ -79,7 +80,7 @@ impl<'a> Log<'a> {
         written.is_ok()
     }
 
-    // Prints a line, or counts it as lost; before it, how many were lost.
+    // Prints a line, or counts it as lost; before it, the number lost.
     fn tell(&mut self, event: Event<'_>) {
         if self.lost > 0 && self.put(Event::Lost(self.lost)) {
             self.lost = 0;
@@ -89,7 +90,7 @@ impl<'a> Log<'a> {
         }
     }
 
-    /// Connections are waited for.
+    /// It listens for connections.
     pub(crate) fn listens(&mut self, address: SocketAddr) {
         self.tell(Event::Listens(address));
     }
@@ -99,7 +100,7 @@ impl<'a> Log<'a> {
         self.tell(Event::Serves(address));
     }
 
-    /// A session begins, with who connected and who is connected to.
+    /// A session begins, with the peer that connected and the address that is connected to.
     pub(crate) fn begins(&mut self, name: Name) {
         count(&mut self.counts.begun);
         self.counts(name, Counted::Begun, &Reasons::none());
@@ -120,7 +121,7 @@ impl<'a> Log<'a> {
         self.tallies.count(name.outer.ip(), counted, reasons);
     }
 
-    /// What there was, as text for Prometheus.
+    /// The counts, as text for Prometheus.
     pub(crate) fn metrics(&self) -> Metrics<'_> {
         Metrics {
             counts: self.counts,
@@ -138,13 +139,13 @@ impl<'a> Log<'a> {
         }
     }
 
-    /// A message of a side was handed on as it came.
+    /// A message of a side was passed on unchanged.
     pub(crate) fn passes(&mut self, name: Name) {
         count(&mut self.counts.messages);
         self.counts(name, Counted::Passed, &Reasons::none());
     }
 
-    /// A message of a side was handed on in other octets.
+    /// A message of a side was passed on with other octets.
     pub(crate) fn changes(&mut self, place: Place, kind: Kind, judged: &Judged<'_>) {
         count(&mut self.counts.messages);
         count(&mut self.counts.changed);
@@ -156,7 +157,7 @@ impl<'a> Log<'a> {
         }
     }
 
-    /// Nothing was handed on of a message of a side.
+    /// Nothing was passed on of a message of a side.
     pub(crate) fn drops(&mut self, place: Place, kind: Kind, judged: &Judged<'_>) {
         count(&mut self.counts.dropped);
         let is_told = self.talkers.may_tell_message(place.name);
@@ -186,13 +187,13 @@ impl<'a> Log<'a> {
         }
     }
 
-    /// Who isn't a neighbour has connected.
+    /// A stranger, which isn't a neighbour, has connected.
     pub(crate) fn refuses(&mut self, from: IpAddr) {
         count(&mut self.counts.strangers);
         self.stranger = Some(from);
     }
 
-    /// Tells a fault that ends a connection at most.
+    /// Prints a fault that ends a connection at most.
     pub(crate) fn fails(&mut self, error: &io::Error) {
         if self.faults < FAULTS && has_room(ERRORS) {
             self.faults = self.faults.saturating_add(1);
@@ -200,14 +201,14 @@ impl<'a> Log<'a> {
         }
     }
 
-    /// Tells that its owner asked for what can't be done.
+    /// Prints that its owner asked for what can't be done.
     pub(crate) fn complains(&mut self, what: &str) {
         if has_room(ERRORS) {
             let _ = eprintln!(self.rt; "{NAME}: {what}");
         }
     }
 
-    /// Tells why the file of neighbours can't be used.
+    /// Prints why the file of neighbours can't be used.
     pub(crate) fn misreads(&mut self, path: Option<&String>, why: &Unread) {
         if has_room(ERRORS) {
             let path = path.map_or("", |path| path.as_str());
@@ -215,12 +216,12 @@ impl<'a> Log<'a> {
         }
     }
 
-    /// The file of neighbours was read again: how many there are, and how many sessions end.
+    /// The file of neighbours was read again: the number of neighbours, and of sessions that end.
     pub(crate) fn reloads(&mut self, neighbours: usize, ended: u64) {
         self.tell(Event::Reloads(neighbours, ended));
     }
 
-    /// Tells that there may be fewer sessions than there are neighbours.
+    /// Warns that the limit of sessions is below the number of neighbours.
     pub(crate) fn warns(&mut self, most: u64, neighbours: usize) {
         if has_room(ERRORS) {
             let _ = eprintln!(self.rt;
@@ -229,18 +230,18 @@ impl<'a> Log<'a> {
         }
     }
 
-    /// What there was so far.
+    /// Prints the counts so far.
     pub(crate) fn tells_counts(&mut self) {
         self.tell(Event::Counts(self.counts, self.stranger));
     }
 
-    /// A second has gone by.
+    /// A second has passed.
     pub(crate) fn tick(&mut self) {
         self.talkers.tick();
         self.faults = 0;
     }
 
-    /// Ten seconds have gone by: tells how many lines weren't printed of each neighbour.
+    /// Ten seconds have passed: prints how many lines weren't printed of each neighbour.
     pub(crate) fn tells_more(&mut self) {
         for place in 0..usize::MAX {
             let Some(talker) = self.talkers.get(place) else {

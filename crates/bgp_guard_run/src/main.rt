@@ -1,5 +1,5 @@
-//! The program `bgp_guard_run`: stands between outer peers and an inner speaker, over TCP and the system's clock. What is handed on, and what answers
-//! what isn't, comes of `bgp_guard`; neither time nor sockets are proved.
+//! The program `bgp_guard_run`: a proxy between outer peers and an inner speaker, over TCP and the system's clock. What
+//! is passed on, and how anything else is answered, is decided by `bgp_guard`; neither time nor sockets are proved.
 #![tactic(auto)]
 
 mod commands;
@@ -29,7 +29,7 @@ use bgp_words::{explain, status_of, words};
 use std::io;
 use std::process::ExitCode;
 
-// Does what the words ask for, and answers the status.
+// Does what the command line asks for, and answers the status.
 fn run(rt: &HostRuntime) -> io::Result<u8> {
     let words = words(rt)?;
     let words: Vec<&str> = words.iter().map(|word| word.as_str()).collect(rt.alloc())?;

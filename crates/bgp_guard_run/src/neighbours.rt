@@ -1,18 +1,18 @@
-//! Who may connect, and which address stands for them.
+//! Who may connect, and which local address is used for them.
 
 use std::alloc::AllocError;
 use std::net::IpAddr;
 
-/// Who may connect from an address, and the address from which the other side is connected to then.
+/// A peer that may connect, and the local address from which the other side is connected to then.
 #[derive(Clone, Copy, PartialEq, Eq)]
 pub(crate) struct Neighbour {
-    /// Where it connects from.
+    /// The address it connects from.
     pub(crate) from: IpAddr,
-    /// What stands for it.
+    /// The local address that is used for it.
     pub(crate) bind: IpAddr,
 }
 
-/// What is done for who connects.
+/// What is done for a peer that connects.
 #[derive(Clone, Copy, PartialEq, Eq)]
 pub(crate) enum Admission {
     /// It isn't a neighbour.
@@ -23,16 +23,16 @@ pub(crate) enum Admission {
     From(IpAddr),
 }
 
-/// What two words of neighbours are at fault for.
+/// What is wrong with a neighbour.
 #[derive(Clone, Copy)]
 pub(crate) enum NeighbourFault {
-    /// It isn't two addresses with `=` between.
+    /// It isn't two addresses with `=` between them.
     Form,
-    /// FROM isn't of the family of the address that is listened at.
+    /// FROM isn't of the family of the listening address.
     From,
     /// BIND isn't of the family of the address that is connected to.
     Bind,
-    /// A neighbour before has this FROM or this BIND.
+    /// An earlier neighbour has this FROM or this BIND.
     Again,
 }
 
@@ -58,7 +58,7 @@ pub(crate) struct FileFault {
     pub(crate) fault: NeighbourFault,
 }
 
-/// What is said of a neighbour that can't be one.
+/// The text of what is wrong with a neighbour.
 pub(crate) fn text_of(fault: NeighbourFault) -> &'static str {
     match fault {
         NeighbourFault::Form => "it needs two IP addresses, as 192.0.2.7=127.0.0.7",
@@ -78,7 +78,7 @@ fn is_known(neighbours: &[Neighbour], neighbour: Neighbour) -> bool {
     false
 }
 
-/// What is wrong with one more neighbour.
+/// What is wrong with a further neighbour.
 pub(crate) fn fault_of(
     neighbours: &[Neighbour],
     neighbour: Neighbour,
@@ -96,7 +96,7 @@ pub(crate) fn fault_of(
     None
 }
 
-// One more neighbour of a line: none where the line is empty or a remark.
+// Adds the neighbour of a line: none where the line is empty or a comment.
 fn add_line(
     neighbours: &mut Vec<Neighbour>,
     line: &str,
@@ -116,7 +116,8 @@ fn add_line(
     Ok(fault)
 }
 
-/// Adds the neighbours of a file, `FROM=BIND` a line, with empty lines and remarks from `#` on. Answers what is wrong with the first line that is at fault.
+/// Adds the neighbours of a file, `FROM=BIND` a line, with empty lines and comments from `#` on. Answers what is wrong
+/// with the first faulty line.
 ///
 /// # Errors
 /// `AllocError` where an allocation failed.
@@ -138,7 +139,7 @@ pub(crate) fn add_lines(
     Ok(None)
 }
 
-/// What is done for who connects from an address, where only neighbours may.
+/// What is done for a peer that connects from an address, where only neighbours may.
 pub(crate) fn admit(neighbours: &[Neighbour], from: IpAddr) -> Admission {
     for neighbour in neighbours {
         if neighbour.from == from {

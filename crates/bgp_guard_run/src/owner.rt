@@ -1,4 +1,4 @@
-//! What the owner says on standard input, where the program was asked to read it.
+//! The owner's commands on standard input, where the program was asked to read it.
 
 use bgp_guard_net::has_input;
 use std::io;
@@ -7,7 +7,7 @@ use std::io::Read;
 /// The descriptor of standard input.
 const INPUT: i32 = 0;
 
-/// The longest word that is told apart.
+/// The longest word that is recognised.
 const WORD: usize = 16;
 
 /// What the owner asks for.
@@ -17,21 +17,21 @@ pub(crate) enum Order {
     Reload,
     /// Each session ends, and the program.
     Stop,
-    /// A line that says nothing of these.
+    /// A line with another text.
     Unknown,
 }
 
 /// Standard input, line by line.
 #[derive(Drop)]
 pub(crate) struct Owner {
-    /// The first octets of a line whose end hasn't come.
+    /// The first octets of an incomplete line.
     word: [u8; WORD],
     len: usize,
     /// It has ended.
     is_over: bool,
 }
 
-// What a line asks for: nothing where it is empty.
+// What a line asks for: none where it is empty.
 fn order_of(line: &[u8]) -> Option<Order> {
     match line {
         b"" => None,
@@ -41,7 +41,7 @@ fn order_of(line: &[u8]) -> Option<Order> {
     }
 }
 
-// The weightier one of two.
+// The more important of two.
 fn or_else(first: Option<Order>, second: Option<Order>) -> Option<Order> {
     match (first, second) {
         (Some(Order::Stop), _) | (_, None) => first,
@@ -50,7 +50,7 @@ fn or_else(first: Option<Order>, second: Option<Order>) -> Option<Order> {
 }
 
 impl Owner {
-    /// Nothing was said: where it isn't to be read, nothing will be.
+    /// No command yet; where standard input isn't to be read, there will be none.
     pub(crate) fn new(is_read: bool) -> Owner {
         Owner {
             word: [0; WORD],
@@ -59,7 +59,7 @@ impl Owner {
         }
     }
 
-    // One more octet. Answers what a line asks for whose end it is.
+    // Processes one octet. Answers what a line asks for where the octet ends it.
     fn take(&mut self, octet: u8) -> Option<Order> {
         if octet != b'\n' {
             if let Some(free) = self.word.get_mut(self.len) {
@@ -76,11 +76,11 @@ impl Owner {
         order
     }
 
-    /// What was said by now, read once where something is there: the end of standard input asks to stop, and of several lines the last one counts, or
-    /// that which asks to stop.
+    /// The command that has arrived, read once where there is input: the end of standard input asks to stop, and of
+    /// several lines the last one counts, or the one that asks to stop.
     ///
     /// # Errors
-    /// That of the system: nothing is read any more then.
+    /// That of the system: nothing more is read then.
     pub(crate) fn order<R: Read>(&mut self, from: &mut R) -> io::Result<Option<Order>> {
         if self.is_over || !has_input(INPUT) {
             return Ok(None);

@@ -1,4 +1,4 @@
-//! What was read of a side, and its guard hasn't taken.
+//! Octets that were read from a side, and that its guard hasn't consumed.
 
 ghost use Rattle.std.specs.Prelude.{◌≡◌, ◌==◌, [], length, drop, IfOk, OnErr};
 ghost use Rattle.std.specs.Io.KnownBytes.{Consumes, Keeps};
@@ -8,10 +8,10 @@ use std::io;
 use std::io::Read;
 use std::marker::Model;
 
-/// How many octets are read at once.
+/// The number of octets read at once.
 pub(crate) const PIECE: usize = 16384;
 
-/// What was read and not taken, in memory that is taken once.
+/// Octets that were read and not consumed, in memory that is allocated once.
 #[derive(Drop)]
 pub(crate) struct Piece {
     octets: Vec<u8>,
@@ -31,7 +31,7 @@ impl Model for Piece {
 }
 
 impl Piece {
-    /// With nothing in it.
+    /// Empty.
     ///
     /// # Errors
     /// `AllocError` where an allocation failed.
@@ -59,7 +59,7 @@ impl Piece {
         self.as_slice().is_empty()
     }
 
-    /// Takes so many octets off its front: all of them where there are no more.
+    /// Removes the first `n` octets: all of them where there are fewer.
     pub(crate) fn take_off(&mut self, n: usize)
         ensures { self.new ≡ drop n self.old }
     {
@@ -70,7 +70,7 @@ impl Piece {
         }
     }
 
-    /// Takes all octets off.
+    /// Removes all octets.
     pub(crate) fn clear(&mut self)
         ensures { self.new ≡ [] }
     {
@@ -78,7 +78,7 @@ impl Piece {
         self.end = 0;
     }
 
-    /// Reads once, in place of what there was.
+    /// Reads once, over what there was.
     pub(crate) fn fill<R: Read>(&mut self, from: &mut R) -> io::Result<usize>
         ensures read { IfOk result (λ _. Consumes (R.remaining from.old) (R.remaining from.new) self.new) }
         ensures count { IfOk result (λ n. n ≡ length self.new) }

@@ -1,4 +1,4 @@
-//! Why a message was changed, dropped or answered: judged once more, for the log alone.
+//! Why a message was changed, dropped or answered: judged again, only for the log.
 
 ghost use Rattle.std.specs.Prelude.{◌+◌, length};
 ghost use Rattle.bgp_frame.specs.Prelude.{IsLength};
@@ -14,15 +14,15 @@ use bgp_update::UpdateView;
 use bgp_wire::OctetSet;
 use std::fmt;
 
-/// At most so many are told of a message.
+/// At most this many are reported of a message.
 pub(crate) const REASONS: usize = 8;
 
 /// What was done with a message.
 #[derive(Clone, Copy, PartialEq, Eq)]
 pub(crate) enum Deed {
-    /// It was handed on in other octets.
+    /// It was passed on with other octets.
     Changed,
-    /// Nothing of it was handed on.
+    /// Nothing of it was passed on.
     Dropped,
     /// It was answered.
     Answered,
@@ -35,13 +35,13 @@ pub(crate) struct Judged<'a> {
     pub(crate) ctx: Context,
     /// The types of unrecognised attributes that are left out.
     pub(crate) drops: OctetSet,
-    /// The octets of the message, as they came: at most 4096.
+    /// The octets of the message, as received: at most 4096.
     pub(crate) octets: &'a [u8],
-    /// Those that were handed on.
+    /// Those that were passed on.
     pub(crate) handed: &'a [u8],
 }
 
-/// Why a message wasn't handed on as it came.
+/// Why a message wasn't passed on unchanged.
 #[derive(Clone, Copy, PartialEq, Eq)]
 pub(crate) enum Reason {
     /// A capability isn't understood, and was left out.
@@ -52,7 +52,7 @@ pub(crate) enum Reason {
     Attribute(u8, Why),
     /// Its routes are beyond a limit.
     Limit,
-    /// It was answered for this test.
+    /// It was answered for this fault.
     Cause(Cause),
 }
 
@@ -68,7 +68,7 @@ fn octet_at(octets: &[u8], at: usize) -> u8 {
     octets.get(at).copied().unwrap_or(0)
 }
 
-// Whether a capability goes on: AS numbers of four octets, and unicast of IPv4 and IPv6 (RFC 4760, section 8).
+// Whether a capability is passed on: 4-octet AS numbers, and unicast of IPv4 and IPv6 (RFC 4760, section 8).
 fn is_understood(octets: &[u8], at: usize) -> bool {
     match octet_at(octets, at) {
         65 => true,
@@ -88,7 +88,7 @@ fn announces(outcome: &OutcomeView<'_>) -> bool {
     }
 }
 
-// Whether the first of these messages that announces routes is there.
+// Whether one of these messages announces routes.
 fn are_announced(ctx: &Context, octets: &[u8]) -> bool {
     let mut left = octets;
     for _turn in 0..3 {
@@ -118,7 +118,7 @@ impl Reasons {
         self.all.get(at).copied()?
     }
 
-    // One more, where it isn't there yet.
+    // Adds a reason, where it isn't among them yet.
     fn add(&mut self, reason: Reason) {
         for known in self.all.iter() {
             if *known == Some(reason) {
@@ -210,7 +210,7 @@ fn put_name<W: fmt::Write>(
     }
 }
 
-// The section of an RFC behind what was said, where there is one.
+// The section of the RFC, after the reason, where there is one.
 fn put_section<W: fmt::Write>(f: &mut fmt::Formatter<W>, section: &str) -> fmt::Result {
     if section.is_empty() {
         return Ok(());
@@ -240,7 +240,7 @@ impl fmt::Display for Reason {
     }
 }
 
-// Reasons one behind the other, each between quotes where they are members of a list.
+// Reasons in sequence, each between quotes where they are members of a list.
 fn put_list<W: fmt::Write>(
     f: &mut fmt::Formatter<W>,
     reasons: &Reasons,
@@ -259,7 +259,7 @@ fn put_list<W: fmt::Write>(
     Ok(())
 }
 
-/// Puts reasons as text, where there are some.
+/// Prints reasons as text, where there are some.
 pub(crate) fn put_reasons<W: fmt::Write>(
     f: &mut fmt::Formatter<W>,
     reasons: &Reasons,
@@ -271,7 +271,7 @@ pub(crate) fn put_reasons<W: fmt::Write>(
     put_list(f, reasons, "")
 }
 
-/// Puts reasons as a member of a JSON object, where there are some.
+/// Prints reasons as a member of a JSON object, where there are some.
 pub(crate) fn put_reasons_json<W: fmt::Write>(
     f: &mut fmt::Formatter<W>,
     reasons: &Reasons,

@@ -1,4 +1,4 @@
-//! What the words of the command line ask for.
+//! The request of the command line.
 
 use crate::commands::guard;
 use crate::lines::Form;
@@ -11,48 +11,48 @@ use clap::{ArgMatches, Error};
 use std::alloc::Global;
 use std::net::SocketAddr;
 
-/// The sessions at once where nothing is said.
+/// The default limit of sessions at once.
 const SESSIONS: u64 = 64;
 
-/// The sessions of one neighbour at once where nothing is said.
+/// The default limit of sessions of one neighbour at once.
 const SESSIONS_OF_PEER: u64 = 2;
 
-/// The AS numbers of a path where nothing is said.
+/// The default limit of AS numbers in a path.
 const LONGEST_PATH: u16 = 500;
 
-/// The octets that an UPDATE leaves free for what the inner speaker adds, where nothing is said.
+/// The default number of octets that an UPDATE leaves free for what the inner speaker adds.
 const ROOM: u16 = 300;
 
-/// The most that may be asked for.
+/// The greatest limit that may be set.
 const SESSIONS_MAX: u64 = 4096;
 
-/// What the words ask for.
+/// What the command line asks for.
 #[derive(Drop)]
 pub(crate) struct Request {
-    /// Where connections are waited for.
+    /// The address to listen at.
     pub(crate) listen: SocketAddr,
-    /// Where the other side of each is.
+    /// The address of the other side.
     pub(crate) to: SocketAddr,
-    /// Who connects is the inner speaker.
+    /// The inner speaker connects.
     pub(crate) inner_connects: bool,
-    /// Who may connect, by words alone: anyone where there are neither these nor a file.
+    /// Who may connect, by flags alone: anyone where there are neither these nor a file.
     pub(crate) neighbours: Vec<Neighbour>,
     /// The file of more neighbours.
     pub(crate) peers: Option<String>,
     /// Standard input is read.
     pub(crate) has_owner: bool,
     pub(crate) rules: Rules,
-    /// How many sessions there may be at once.
+    /// The limit of sessions at once.
     pub(crate) most: u64,
-    /// How many there may be at once of one address.
+    /// The limit of sessions at once from one address.
     pub(crate) most_of_peer: u64,
     /// How lines are printed.
     pub(crate) form: Form,
-    /// Where counters are read.
+    /// The address where counters are served.
     pub(crate) metrics: Option<SocketAddr>,
-    /// After how many sessions it ends.
+    /// The number of sessions after which it ends.
     pub(crate) sessions: Option<u64>,
-    /// After how many seconds it ends.
+    /// The number of seconds after which it ends.
     pub(crate) seconds: Option<u64>,
 }
 
@@ -68,7 +68,7 @@ fn bad(alloc: Global, text: &str) -> Error {
     bad_value(guard(alloc), text)
 }
 
-// The error of an argument that has no number between bounds.
+// The error of an argument that isn't a number within bounds.
 fn bad_number(alloc: Global, name: &str, least: u64, most: u64) -> Error {
     match format!(in alloc; "--{name} needs a number from {least} to {most}") {
         Ok(text) => bad(alloc, &text),
@@ -76,7 +76,7 @@ fn bad_number(alloc: Global, name: &str, least: u64, most: u64) -> Error {
     }
 }
 
-// The number that an argument has, where it has one.
+// The number of an argument, where it is present.
 fn number(
     alloc: Global,
     found: &ArgMatches<'_>,
@@ -93,7 +93,7 @@ fn number(
     }
 }
 
-// The number of 16 bits that an argument has, where it has one.
+// The 16-bit number of an argument, where it is present.
 fn short(alloc: Global, found: &ArgMatches<'_>, name: &str) -> Result<Option<u16>, Error> {
     let Some(text) = found.get_str(name) else {
         return Ok(None);
@@ -104,7 +104,7 @@ fn short(alloc: Global, found: &ArgMatches<'_>, name: &str) -> Result<Option<u16
     }
 }
 
-// The AS number that an argument has, where it has one.
+// The AS number of an argument, where it is present.
 fn as_number(alloc: Global, found: &ArgMatches<'_>, name: &str) -> Result<Option<u32>, Error> {
     let Some(text) = found.get_str(name) else {
         return Ok(None);
@@ -115,7 +115,7 @@ fn as_number(alloc: Global, found: &ArgMatches<'_>, name: &str) -> Result<Option
     }
 }
 
-// The address with a port that an argument has.
+// The address with a port of an argument.
 fn address(alloc: Global, found: &ArgMatches<'_>, name: &str) -> Result<SocketAddr, Error> {
     match found.get_str(name).unwrap_or("").parse::<SocketAddr>() {
         Ok(address) => Ok(address),
@@ -153,7 +153,7 @@ fn limits(alloc: Global, found: &ArgMatches<'_>) -> Result<Limits, Error> {
     })
 }
 
-// The error of a neighbour that can't be one.
+// The error of a faulty neighbour.
 fn bad_neighbour(alloc: Global, word: &str, fault: NeighbourFault) -> Error {
     let why = text_of(fault);
     match format!(in alloc; "invalid value '{word}' for '--peer <FROM=BIND>': {why}") {
@@ -162,7 +162,7 @@ fn bad_neighbour(alloc: Global, word: &str, fault: NeighbourFault) -> Error {
     }
 }
 
-// The neighbours of words.
+// The neighbours given by flags.
 fn neighbours(alloc: Global, words: &[&str], families: Families) -> Result<Vec<Neighbour>, Error> {
     let mut neighbours = Vec::new(alloc);
     for word in words {
@@ -177,7 +177,7 @@ fn neighbours(alloc: Global, words: &[&str], families: Families) -> Result<Vec<N
     Ok(neighbours)
 }
 
-/// The families of addresses of who connects, and of who is connected to.
+/// The address families of the peer that connects, and of the one that is connected to.
 pub(crate) fn families_of(listen: SocketAddr, to: SocketAddr) -> Families {
     Families {
         from_ipv4: listen.is_ipv4(),
@@ -231,7 +231,7 @@ fn asked(alloc: Global, found: &ArgMatches<'_>) -> Result<Request, Error> {
     })
 }
 
-/// What the words, which stand without the program's name, ask for.
+/// What the words of the command line, without the program's name, ask for.
 pub(crate) fn parse(alloc: Global, words: &[&str]) -> Result<Request, Error> {
     let found = guard(alloc)?.try_get_matches_from(words)?;
     asked(alloc, &found)

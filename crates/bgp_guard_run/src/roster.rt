@@ -1,4 +1,4 @@
-//! Who may connect: the neighbours of words and of a file.
+//! Who may connect: the neighbours given by flags and by a file.
 
 use crate::neighbours::{FileFault, Neighbour, add_lines, text_of};
 use crate::request::{Request, families_of};
@@ -37,7 +37,7 @@ impl fmt::Display for Unread {
     }
 }
 
-// The neighbours of words.
+// The neighbours given by flags.
 fn of_words(alloc: Global, request: &Request) -> Result<Vec<Neighbour>, AllocError> {
     let mut neighbours = Vec::new(alloc);
     for neighbour in request.neighbours.iter() {
@@ -46,7 +46,7 @@ fn of_words(alloc: Global, request: &Request) -> Result<Vec<Neighbour>, AllocErr
     Ok(neighbours)
 }
 
-/// All neighbours as they are now: those of words, and behind them those of the file, where there is one.
+/// All neighbours as they are now: those given by flags, and after them those of the file, where there is one.
 pub(crate) fn neighbours_of(rt: &HostRuntime, request: &Request) -> Result<Vec<Neighbour>, Unread> {
     let mut neighbours = of_words(rt.alloc(), request)?;
     let Some(path) = &request.peers else {

@@ -1,4 +1,4 @@
-//! The socket at which counters are read: HTTP, of which no word is looked at.
+//! The socket at which counters are read: HTTP, whose requests aren't parsed.
 
 use mio::event::Event;
 use mio::net::{TcpListener, TcpStream};
@@ -8,27 +8,27 @@ use std::io;
 use std::io::{ErrorKind, Read, Write};
 use std::net::{Shutdown, SocketAddr};
 
-/// The tokens of the socket and of who reads, which no session has.
+/// The tokens of the socket and of its client, which no session has.
 const LISTENER: usize = usize::MAX - 1;
 
 const READER: usize = usize::MAX;
 
-/// A reader has so many seconds.
+/// The time limit of a client in seconds.
 const SECONDS: u8 = 5;
 
-/// Who reads.
+/// A client.
 #[derive(Drop)]
 struct Reader {
     stream: TcpStream,
-    /// What it asked for has come, or some of it.
+    /// Its request, or some of it, has arrived.
     has_asked: bool,
-    /// What it gets.
+    /// The response.
     text: String,
     sent: usize,
     left: u8,
 }
 
-/// The socket, where there is one, and who reads: one at a time.
+/// The socket, where there is one, and its client: one at a time.
 #[derive(Drop)]
 pub(crate) struct Scraping {
     listener: Option<TcpListener>,
@@ -37,12 +37,12 @@ pub(crate) struct Scraping {
 }
 
 impl Reader {
-    // Whether it was sent all that it gets.
+    // Whether the whole response was sent.
     fn has_all(&self) -> bool {
         !self.text.is_empty() && self.sent >= self.text.len()
     }
 
-    // Takes what it asks for off the connection. Answers whether it is over.
+    // Reads the request from the connection. Answers whether the client is done.
     fn hear(&mut self) -> bool {
         let mut asked = [0_u8; 1024];
         match self.stream.read(&mut asked) {
@@ -55,7 +55,7 @@ impl Reader {
         }
     }
 
-    // Sends what is left. Answers whether it is over.
+    // Sends the rest. Answers whether the client is done.
     fn send(&mut self) -> bool {
         let Some(rest) = self.text.as_bytes().get(self.sent..) else {
             return false;
@@ -98,7 +98,7 @@ impl Scraping {
         })
     }
 
-    /// Where it listens.
+    /// The address it listens at.
     pub(crate) fn address(&self) -> Option<SocketAddr> {
         self.listener.as_ref()?.local_addr().ok()
     }
@@ -112,7 +112,7 @@ impl Scraping {
         token == LISTENER || token == READER
     }
 
-    // Accepts who reads next, where nobody does.
+    // Accepts the next client, where there is none.
     fn accept(&mut self, alloc: Global, registry: &Registry) {
         if self.reader.is_some() || !self.has_guests {
             return;
@@ -137,7 +137,7 @@ impl Scraping {
         }
     }
 
-    /// Whether somebody has asked and has nothing yet.
+    /// Whether a client has asked and has no response yet.
     pub(crate) fn is_asked(&mut self, alloc: Global, registry: &Registry) -> bool {
         self.accept(alloc, registry);
         let Some(reader) = &mut self.reader else {
@@ -151,7 +151,7 @@ impl Scraping {
         is_asked && !is_over
     }
 
-    /// Gives who has asked a text.
+    /// Gives the client its response.
     pub(crate) fn tell(&mut self, text: String) {
         if let Some(reader) = &mut self.reader {
             reader.text = text;
@@ -161,7 +161,7 @@ impl Scraping {
         }
     }
 
-    /// A second has gone by.
+    /// A second has passed.
     pub(crate) fn tick(&mut self) {
         let Some(reader) = &mut self.reader else {
             return;

@@ -22,51 +22,51 @@ use std::io::ErrorKind;
 use std::net::{IpAddr, SocketAddr};
 use std::time::{Duration, Instant};
 
-/// How many events are taken at once.
+/// The number of events handled at once.
 const EVENTS: usize = 256;
 
-/// How many connections are accepted before sessions go on.
+/// The number of connections accepted before sessions continue.
 const BATCH: usize = 16;
 
-/// How many seconds are between two lines of counts.
+/// The seconds between two lines of counts.
 const MINUTE: u64 = 60;
 
-/// How many seconds are between two lines of what wasn't printed.
+/// The seconds between two lines on what wasn't printed.
 const DECADE: u64 = 10;
 
-/// The status where a line of the file of neighbours is at fault, as where a word is.
+/// The status where a line of the file of neighbours is faulty, as for a fault of the command line.
 const MISUSE: u8 = 2;
 
 /// The token of the socket that listens. Those of sessions follow, two for each.
 const LISTENER: usize = 0;
 
-/// All that the program has.
+/// The state of the program.
 #[derive(Drop)]
 struct Server<'a> {
     rt: &'a HostRuntime,
     request: &'a Request,
-    /// Who may connect, where not anyone may.
+    /// Who may connect, where not everyone may.
     neighbours: Vec<Neighbour>,
     owner: Owner,
     log: Log<'a>,
     poll: Poll,
     listener: TcpListener,
     scraping: Scraping,
-    /// Connections may wait.
+    /// Connections may be pending.
     has_guests: bool,
-    /// A place for each session that there may be.
+    /// A slot for each possible session.
     places: Vec<Option<Session>>,
-    /// When the next second is over.
+    /// When the current second ends.
     next: Instant,
-    /// How many seconds have gone by.
+    /// The number of seconds passed.
     seconds: u64,
     /// Its owner has asked it to stop.
     is_stopping: bool,
-    /// Once it stops or its time is over, when it leaves those sessions that are still there.
+    /// Once it stops or its time is over, when it abandons the sessions that remain.
     last: Option<u64>,
 }
 
-// The token of a side of the session in a place.
+// The token of a side of the session in a slot.
 fn token_of(place: usize, side: Side) -> Token {
     let first = place.saturating_mul(2).saturating_add(1);
     match side {
@@ -75,7 +75,7 @@ fn token_of(place: usize, side: Side) -> Token {
     }
 }
 
-// Tells a session of an event. Answers whether it is of the socket that listens.
+// Passes an event to its session. Answers whether it is one of the listening socket.
 fn wake(places: &mut [Option<Session>], event: &Event) -> bool {
     let Token(token) = event.token();
     if token == LISTENER {
@@ -93,7 +93,7 @@ fn wake(places: &mut [Option<Session>], event: &Event) -> bool {
     false
 }
 
-// A place in which there is no session.
+// A free slot.
 fn free_place(places: &[Option<Session>]) -> Option<usize> {
     for (place, session) in places.iter().enumerate() {
         if session.is_none() {
@@ -103,7 +103,7 @@ fn free_place(places: &[Option<Session>]) -> Option<usize> {
     None
 }
 
-// As many places as there may be sessions.
+// A slot for each session that there may be.
 fn places_for(rt: &HostRuntime, most: u64) -> io::Result<Vec<Option<Session>>> {
     let mut places = Vec::new(rt.alloc());
     for _place in 0..most {
@@ -152,7 +152,7 @@ impl<'a> Server<'a> {
         }
     }
 
-    // Has the events of a stream reported, which sends at once what it is given.
+    // Registers the events of a stream, without Nagle's algorithm.
     fn watch(&self, stream: &mut TcpStream, token: Token) -> io::Result<()> {
         stream.set_nodelay(true)?;
         probe(stream)?;
@@ -189,7 +189,7 @@ impl<'a> Server<'a> {
         }
     }
 
-    // A session for who has connected, in a place.
+    // A session for the peer that has connected, in a slot.
     fn session(
         &self,
         mut stream: TcpStream,
@@ -209,7 +209,7 @@ impl<'a> Server<'a> {
         Ok(Session::new(self.rt.alloc(), self.request.rules, name, ends)?)
     }
 
-    // Whether an address has as many sessions as it may have.
+    // Whether the sessions of an address are at their limit.
     fn is_crowded(&self, from: IpAddr) -> bool {
         let side = self.guest_side();
         let mut count = 0_u64;
@@ -221,7 +221,7 @@ impl<'a> Server<'a> {
         count >= self.request.most_of_peer
     }
 
-    // Begins a session with who has connected, where there is a place.
+    // Begins a session with the peer that has connected, where there is a free slot.
     fn begin(&mut self, stream: TcpStream, from: SocketAddr, source: Option<IpAddr>) {
         if self.is_crowded(from.ip()) {
             count(&mut self.log.counts.crowded);
@@ -245,7 +245,7 @@ impl<'a> Server<'a> {
         }
     }
 
-    // What is done for who connects from an address.
+    // What is done for a peer that connects from an address.
     fn admission(&self, from: IpAddr) -> Admission {
         if self.request.is_open() {
             Admission::Anyhow
@@ -254,7 +254,7 @@ impl<'a> Server<'a> {
         }
     }
 
-    // Begins a session with who has connected, where that is a neighbour.
+    // Begins a session with the peer that has connected, where it is a neighbour.
     fn greet(&mut self, stream: TcpStream, from: SocketAddr) {
         match self.admission(from.ip()) {
             Admission::Anyhow => self.begin(stream, from, None),
@@ -263,7 +263,7 @@ impl<'a> Server<'a> {
         }
     }
 
-    // Whether so many sessions have begun as there are to be, or its time is over.
+    // Whether the requested number of sessions has begun, or its time is over.
     fn has_begun_all(&self) -> bool {
         let all = match self.request.sessions {
             Some(sessions) => self.log.counts.begun >= sessions,
@@ -272,7 +272,7 @@ impl<'a> Server<'a> {
         all || self.last.is_some()
     }
 
-    // Accepts connections that wait. After a fault it goes on with the next second.
+    // Accepts pending connections. After a fault it continues with the next second.
     fn accept(&mut self) {
         for _turn in 0..BATCH {
             if !self.has_guests || self.has_begun_all() {
@@ -309,7 +309,7 @@ impl<'a> Server<'a> {
         is_busy
     }
 
-    // Tells each session that a second has gone by, where it has.
+    // Passes the end of a second to each session, where it is over.
     fn tick(&mut self, now: Instant) {
         if now < self.next {
             return;
@@ -333,7 +333,7 @@ impl<'a> Server<'a> {
         }
     }
 
-    // Ends each session whose neighbour is one no more, or has another address that stands for it. Answers how many.
+    // Ends each session whose neighbour was removed, or has another local address. Answers their number.
     fn dismiss(&mut self) -> u64 {
         let side = self.guest_side();
         let mut ended = 0_u64;
@@ -353,7 +353,7 @@ impl<'a> Server<'a> {
         ended
     }
 
-    // Reads the file of neighbours again. Where it can't be used, they stay as they are.
+    // Reads the file of neighbours again. Where it can't be used, they are unchanged.
     fn reload(&mut self) {
         if self.request.peers.is_none() {
             return self.log.complains("reload, and there is no --peers");
@@ -382,7 +382,8 @@ impl<'a> Server<'a> {
         }
     }
 
-    // Once it is to stop or its time is over, ends each session: both sides are told, and have some seconds to take what is on its way.
+    // Once it is to stop or its time is over, ends each session: both sides get a NOTIFICATION, and some seconds to
+    // read what is queued.
     fn end_in_time(&mut self) {
         let is_late = match self.request.seconds {
             Some(seconds) => self.seconds >= seconds,
@@ -411,7 +412,7 @@ impl<'a> Server<'a> {
         Ok(())
     }
 
-    // Serves counters to who asks for them: without memory for them, nothing.
+    // Serves counters to a client: nothing where the allocation fails.
     fn show(&mut self) {
         let alloc = self.rt.alloc();
         if !self.scraping.is_asked(alloc, self.poll.registry()) {
@@ -426,7 +427,7 @@ impl<'a> Server<'a> {
         }
     }
 
-    // Whether it has run as long as it was asked to.
+    // Whether it has run for the requested time.
     fn is_over(&self) -> bool {
         let ended = match self.request.sessions {
             Some(sessions) => self.log.counts.ended >= sessions,
@@ -470,7 +471,7 @@ impl<'a> Server<'a> {
         Ok(())
     }
 
-    // Tells of each session that is left, and what there was.
+    // Prints the end of each remaining session, and the counts.
     fn stop(&mut self) {
         for place in self.places.iter() {
             if let Some(session) = place {
@@ -482,7 +483,7 @@ impl<'a> Server<'a> {
     }
 }
 
-// Tells why the file of neighbours can't be used, and answers the status: 2 where a line is at fault.
+// Prints why the file of neighbours can't be used, and answers the status: 2 where a line is faulty.
 fn refuse(rt: &HostRuntime, request: &Request, why: &Unread) -> u8 {
     match why {
         Unread::Io(error) if error.kind() == ErrorKind::OutOfMemory => status_of(rt, NAME, error),
@@ -497,7 +498,7 @@ fn refuse(rt: &HostRuntime, request: &Request, why: &Unread) -> u8 {
     }
 }
 
-/// Stands between speakers as the words ask, and answers the status.
+/// Runs guards as the command line asks, and answers the status.
 pub(crate) fn serve(rt: &HostRuntime, request: &Request) -> io::Result<u8> {
     let neighbours = match neighbours_of(rt, request) {
         Ok(neighbours) => neighbours,

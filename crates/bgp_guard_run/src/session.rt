@@ -15,14 +15,14 @@ use std::net::IpAddr;
 #[derive(Drop)]
 pub(crate) struct Session {
     pub(crate) name: Name,
-    /// The address from which the other side was connected to, where that of a neighbour is.
+    /// The address from which the other side was connected to, where it is that of a neighbour.
     pub(crate) source: Option<IpAddr>,
     guard: Guard,
     outer: Connection,
     inner: Connection,
     /// Why it ends, once it does.
     why: Option<Why>,
-    /// It was told that it is up.
+    /// It was reported as up.
     is_up: bool,
 }
 
@@ -33,9 +33,9 @@ pub(crate) struct Ends {
     pub(crate) side: Side,
     /// Its connection.
     pub(crate) accepted: TcpStream,
-    /// The connection that is sought to the other side, where that didn't fail at once.
+    /// The connection that is being made to the other side, where that didn't fail at once.
     pub(crate) sought: io::Result<TcpStream>,
-    /// The address from which it is sought, where that of a neighbour is.
+    /// The address from which it is made, where it is that of a neighbour.
     pub(crate) source: Option<IpAddr>,
 }
 
@@ -48,7 +48,7 @@ fn split(sought: io::Result<TcpStream>, side: Side) -> (Option<TcpStream>, Optio
 }
 
 impl Session {
-    /// A session of which one side stands, and the other is sought.
+    /// A session of which one side is up, and the other is being connected to.
     ///
     /// # Errors
     /// `AllocError` where an allocation failed.
@@ -96,7 +96,7 @@ impl Session {
         }
     }
 
-    /// What an event tells of the connection of a side.
+    /// Records an event of the connection of a side.
     pub(crate) fn wake(&mut self, side: Side, event: &Event) {
         match side {
             Side::Outer => self.outer.wake(event),
@@ -104,14 +104,14 @@ impl Session {
         }
     }
 
-    // The first reason stays.
+    // Records why the session ends: the first reason counts.
     fn blame(&mut self, why: Option<Why>) {
         if self.why.is_none() {
             self.why = why;
         }
     }
 
-    // Tells the guard what came of connecting.
+    // Reports the result of connecting to the guard.
     fn meet(&mut self) {
         let why = self.outer.meet(&mut self.guard);
         self.blame(why);
@@ -127,7 +127,7 @@ impl Session {
         self.blame(why);
     }
 
-    // Finds who has hung up without being heard.
+    // Finds a side that hung up while it wasn't read.
     fn miss(&mut self) {
         let why = self.outer.miss(&mut self.guard, self.inner.is_still());
         self.blame(why);
@@ -135,7 +135,7 @@ impl Session {
         self.blame(why);
     }
 
-    // Sends what is on its way, and leaves a side where nothing is any more.
+    // Sends what is queued, and leaves a side where the guard closes it.
     fn send(&mut self) {
         let why = self.outer.send(&mut self.guard);
         self.blame(why);
@@ -145,7 +145,7 @@ impl Session {
         self.inner.leave(&self.guard);
     }
 
-    // Tells once that both sides have sent OPEN and KEEPALIVE.
+    // Reports once that both sides have sent OPEN and KEEPALIVE.
     fn rise(&mut self, log: &mut Log<'_>) {
         if self.is_up || !self.outer.is_ready || !self.inner.is_ready {
             return;
@@ -159,7 +159,7 @@ impl Session {
         }
     }
 
-    /// Does what there is to do by now.
+    /// Does what there is to do now.
     pub(crate) fn work(&mut self, log: &mut Log<'_>) {
         self.meet();
         if self.why.is_some() {
@@ -175,7 +175,7 @@ impl Session {
         }
     }
 
-    /// A second has gone by.
+    /// A second has passed.
     pub(crate) fn tick(&mut self) {
         self.guard.tick();
         if self.guard.has_ended() {
@@ -189,7 +189,7 @@ impl Session {
         self.blame(why);
     }
 
-    /// Its owner ends it: both sides are told, behind what is on its way.
+    /// Its owner ends it: both sides get a NOTIFICATION, after what is queued.
     pub(crate) fn stop(&mut self) {
         self.guard.stop();
         self.blame(Some(Why::Stopped));

@@ -1,4 +1,4 @@
-//! The time of a line, as RFC 3339 has it.
+//! The time of a line, by RFC 3339.
 
 use std::fmt;
 
@@ -22,7 +22,7 @@ struct Date {
     day: u64,
 }
 
-// The date so many days behind the first of 1970: years begin in March, so that a leap day is the last one of its year.
+// The date `days` days after the first of 1970: years begin in March, so that a leap day is the last one of its year.
 fn date_of(days: u64) -> Date {
     let days = days.saturating_add(DAYS_BEFORE);
     let (era, day) = (days / DAYS_OF_ERA, days % DAYS_OF_ERA);

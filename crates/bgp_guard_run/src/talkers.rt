@@ -4,22 +4,22 @@ use crate::lines::Name;
 use std::alloc::Global;
 use std::net::IpAddr;
 
-/// At most so many lines of a neighbour are printed each second,
+/// At most this many lines of a neighbour are printed each second,
 const LINES: u32 = 100;
 
-/// so many of them of messages that were changed or dropped: the others tell how its sessions go.
+/// this many of them on messages that were changed or dropped: the others are on its sessions.
 pub(crate) const LINES_OF_MESSAGES: u32 = 90;
 
-/// At most so many in ten seconds: a flood of ten minutes makes less than a megabyte.
+/// At most this many in ten seconds: a flood of ten minutes makes less than a megabyte.
 const LINES_OF_TEN: u32 = 400;
 
-/// so many of them of messages.
+/// this many of them on messages.
 const MESSAGES_OF_TEN: u32 = 300;
 
-/// Neighbours beyond so many in ten seconds share one count.
+/// Neighbours beyond this number in ten seconds share one count.
 const TALKERS: usize = 4096;
 
-/// What was printed of a neighbour.
+/// The lines printed on a neighbour.
 #[derive(Clone, Copy)]
 pub(crate) struct Talker {
     from: IpAddr,
@@ -29,11 +29,11 @@ pub(crate) struct Talker {
     sum: u32,
     /// Lines that weren't printed.
     pub(crate) more: u64,
-    /// The last session of which one wasn't.
+    /// The last session of which a line wasn't printed.
     pub(crate) number: u64,
 }
 
-/// What was printed of all neighbours in these ten seconds.
+/// The lines printed on all neighbours in these ten seconds.
 #[derive(Drop)]
 pub(crate) struct Talkers {
     talkers: Vec<Talker>,
@@ -47,7 +47,7 @@ impl Talkers {
         }
     }
 
-    // Where a neighbour stands: behind the last one where it is new.
+    // The index of a neighbour: after the last one where it is new.
     fn place_of(&self, from: IpAddr) -> usize {
         for (place, talker) in self.talkers.iter().enumerate() {
             if talker.from == from {
@@ -68,7 +68,7 @@ impl Talkers {
                 more: 0,
                 number: name.number,
             };
-            // Without memory for it, its lines aren't counted.
+            // Where the allocation fails, its lines aren't counted.
             let _ = self.talkers.push(talker);
             return true;
         };
@@ -93,19 +93,19 @@ impl Talkers {
         self.count(name, LINES_OF_MESSAGES, MESSAGES_OF_TEN)
     }
 
-    /// A second has gone by.
+    /// A second has passed.
     pub(crate) fn tick(&mut self) {
         for talker in self.talkers.iter_mut() {
             talker.lines = 0;
         }
     }
 
-    /// One of those that have spoken.
+    /// One of the neighbours on which lines were printed.
     pub(crate) fn get(&self, place: usize) -> Option<Talker> {
         self.talkers.get(place).copied()
     }
 
-    /// Ten seconds have gone by.
+    /// Ten seconds have passed.
     pub(crate) fn clear(&mut self) {
         self.talkers.clear();
     }

@@ -1,4 +1,4 @@
-//! What there was of each neighbour, by reason.
+//! The counts of each neighbour, by reason.
 
 use crate::counts::{Counts, count};
 use crate::reasons::{REASONS, Reason, Reasons};
@@ -6,10 +6,10 @@ use std::alloc::Global;
 use std::fmt;
 use std::net::IpAddr;
 
-/// At most so many neighbours are counted by themselves.
+/// At most this many neighbours are counted separately.
 const NEIGHBOURS: usize = 4096;
 
-/// At most so many reasons of a neighbour are.
+/// At most this many reasons of a neighbour are.
 const KINDS: usize = 64;
 
 /// What was done with a neighbour's messages.
@@ -17,24 +17,24 @@ const KINDS: usize = 64;
 pub(crate) enum Counted {
     /// A session of it began.
     Begun,
-    /// One was handed on.
+    /// One was passed on.
     Passed,
-    /// One was handed on in other octets.
+    /// One was passed on with other octets.
     Changed,
-    /// Nothing was handed on of one.
+    /// Nothing was passed on of one.
     Dropped,
     /// One was answered.
     Answered,
 }
 
-/// How often there was a reason.
+/// The count of a reason.
 #[derive(Clone, Copy)]
 struct Often {
     reason: Reason,
     count: u64,
 }
 
-/// What there was of a neighbour.
+/// The counts of a neighbour.
 #[derive(Drop)]
 struct Tally {
     from: IpAddr,
@@ -46,7 +46,7 @@ struct Tally {
     reasons: Vec<Often>,
 }
 
-/// What there was of all neighbours, where it is asked for.
+/// The counts of all neighbours, where they are requested.
 #[derive(Drop)]
 pub(crate) struct Tallies {
     alloc: Global,
@@ -55,7 +55,7 @@ pub(crate) struct Tallies {
 }
 
 impl Tally {
-    // Nothing was.
+    // All zero.
     fn new(alloc: Global, from: IpAddr) -> Tally {
         Tally {
             from,
@@ -101,14 +101,14 @@ impl Tally {
             }
         }
         if self.reasons.len() < KINDS {
-            // Without memory for it, it isn't counted.
+            // Where the allocation fails, it isn't counted.
             let _ = self.reasons.push(Often { reason, count: 1 });
         }
     }
 }
 
 impl Tallies {
-    /// Nothing was.
+    /// All zero.
     pub(crate) fn new(alloc: Global, is_kept: bool) -> Tallies {
         Tallies {
             alloc,
@@ -122,7 +122,7 @@ impl Tallies {
         self.is_kept
     }
 
-    // Where a neighbour stands: behind the last one where it is new.
+    // The index of a neighbour: after the last one where it is new.
     fn place_of(&self, from: IpAddr) -> usize {
         for (place, tally) in self.tallies.iter().enumerate() {
             if tally.from == from {
@@ -139,7 +139,7 @@ impl Tallies {
         }
         let place = self.place_of(from).min(NEIGHBOURS - 1);
         if place == self.tallies.len() {
-            // Without memory for it, it isn't counted.
+            // Where the allocation fails, it isn't counted.
             let _ = self.tallies.push(Tally::new(self.alloc, from));
         }
         let Some(tally) = self.tallies.get_mut(place) else {
@@ -154,7 +154,7 @@ impl Tallies {
     }
 }
 
-/// What there was, as text for Prometheus.
+/// The counts, as text for Prometheus.
 #[derive(Clone, Copy)]
 pub(crate) struct Metrics<'a> {
     pub(crate) counts: Counts,

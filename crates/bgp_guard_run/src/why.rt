@@ -10,15 +10,15 @@ pub(crate) enum Why {
     Closed(Side),
     /// The connection of a side failed.
     Lost(Side, io::Error),
-    /// A side couldn't be connected to.
+    /// A side couldn't be reached.
     Unreachable(Side, io::Error),
     /// A side sent a NOTIFICATION.
     Notified(Side, Code),
     /// A side was answered by a NOTIFICATION.
     Answered(Side, Code),
-    /// What is on its way to a side hasn't moved for so many seconds.
+    /// What is queued for a side hasn't moved for this many seconds.
     Stalled(Side, u16),
-    /// The OPENs of both didn't come in time.
+    /// The OPENs of both didn't arrive in time.
     Late,
     /// The program ends.
     Stopped,

@@ -1,4 +1,4 @@
--- Deeds behind deeds, and what they asked.
+-- Actions carried out one after another, and what they required.
 use Rattle.bgp_host.proofs.Prelude.{◌≡◌, ℕ, List, [], ◌∷◌, ◌++◌, length, Option, refl, sym, ap, subst, ◌∙◌, append_assoc, arith, flat_map, map-append}
 use Rattle.bgp_host.proofs.Prelude.{append-nil, flat_map-append, Action, Link, Call, Grows, ticks_of, notices_of, calls_of, link_of, Deed, all_calls}
 use Rattle.bgp_host.proofs.Prelude.{link_behind, Records, Asks, CarriesOut}
@@ -14,14 +14,14 @@ pub links_both : (link : Link) (a b : List Deed) → link_behind link (a ++ b) �
 links_both link [] b = refl
 links_both link (d ∷ a) b = links_both (link_of link d.action d.answer) a b
 
--- what is a list of its own stands behind the rest
+-- the result for one more deed is appended to that for the others
 grows_flat : {A : Type 0} (f : Deed → List A) (old mid new : Option (List A)) (a : List Deed) (d : Deed)
     → Grows old mid (flat_map f a) → Grows mid new (f d) → Grows old new (flat_map f (a ++ d ∷ []))
 grows_flat f old mid new a d first second =
     subst (Grows old new) (sym (flat_map-append f a (d ∷ []) ∙ ap (λ (l : List _). flat_map f a ++ l) (append-nil (f d))))
     (grows_both old mid new (flat_map f a) (f d) first second)
 
--- nothing was done so far
+-- no action was carried out so far
 pub carried_none : (own : List ℕ) (first : Link) (r : Records) → CarriesOut own first [] r r first
 carried_none own first r = record {
   deeds = [];
@@ -51,7 +51,7 @@ carried_next own first done action old mid new link behind so_far asks ticks not
       became = asks.became ∙ ap (λ (l : Link). link_of l action asks.answer) so_far.became ∙ sym (links_both first so_far.deeds (d ∷ []));
     }
 
--- nothing is left to be done
+-- no action is left
 pub all_done : (done left all : List Action) → length left ≡ 0 → done ++ left ≡ all → done ≡ all
 all_done done [] all none is = sym (append-nil done) ∙ is
 all_done done (action ∷ left) all none is = let no_list : ⊥ = omega (arith, none) in absurd no_list

@@ -1,4 +1,4 @@
--- The names of std, of the crates below and of this crate that its proofs cite, passed on from one place. Declares nothing.
+-- Re-exports the names of std, of the crates below and of this crate that its proofs cite. Declares nothing.
 pub use Rattle.bgp_machine.proofs.Prelude.{IsPulled, IsSent, Machine, Standing, disarmed, flushed, happens, hearer, kept, listens, on_event, only_if}
 pub use Rattle.bgp_wire.proofs.Std.{Bool, Err, List, None, Ok, OnErr, Option, Result, Some, [], ap, append_assoc, ap₂, arith, drop, false, flat_map, flat_map-append, if◌then◌else◌, inl, inr, length, map-append, nat_lt, refl, subst, suc, sym, true, zero, ℕ, ◌++◌, ◌<◌, ◌∙◌, ◌∷◌, ◌≡◌, ◌≤◌, ◌⊎◌}
 pub use Rattle.std.proofs.lemmas.List.{append-nil}

@@ -1,4 +1,4 @@
--- What a pull takes, and what it leaves.
+-- The octets that a pull takes, and those it leaves.
 use Rattle.bgp_host.proofs.Prelude.{◌≡◌, ℕ, zero, suc, ◌<◌, ◌≤◌, Bool, true, false, nat_lt, List, [], ◌∷◌, length, drop, None, Some, refl, sym, ap, subst}
 use Rattle.bgp_host.proofs.Prelude.{◌∙◌, arith, inl, inr, if◌then◌else◌, ArrayVec, Action, Connected, Failed, IsPulled, where_found, Machine, own_octets}
 use Rattle.bgp_host.proofs.Prelude.{kept, hearer, listens, weight, happens, State, Link, Same, Up, Down, Deed, actions_of, link_behind, Records, Cause, Told}
@@ -9,8 +9,10 @@ use Rattle.bgp_machine.specs.declared.event.Event.{Event}
 use Rattle.bgp_machine.proofs.Cuttings.{is_hearer, pulls_as_fed}
 use Rattle.bgp_host.proofs.Records.{grows_none}
 use Rattle.bgp_host.proofs.Turns.{at, one_turn, next_turn}
+use Rattle.bgp_frame.specs.Kind.{plain}
+use Rattle.bgp_frame.specs.steps.AreTypes.{plain-are}
 
--- ---- what is due lets no octets come
+-- ---- no octets arrive while an event is due
 
 kept_less : (b : Bool) (held : List ℕ) → one_if_any (kept b held) ≤ one_if_any held
 kept_less true held = omega arith
@@ -37,16 +39,16 @@ held_after Down last (t ∷ turns) x y goes none =
 
 -- ---- a pull
 
--- a session that took nothing, and did nothing, has the whole piece or doesn't listen
+-- a pull without octets or outcome means that the piece is empty or the session doesn't listen
 rests_all : (x : Machine) (piece : List ℕ) (m : Machine) → IsPulled x piece 0 None m → listens m.standing.state ≡ true → piece ≡ []
-rests_all x piece m (inl p) up = absurd (not_both (listens x.standing.state) (ap (λ (z : Machine). listens z.standing.state) (sym p.same) ∙ up) p.deaf)
+rests_all x piece m (inl p) up = absurd (not_both plain plain-are (listens x.standing.state) (ap (λ (z : Machine). listens z.standing.state) (sym p.same) ∙ up) p.deaf)
 rests_all x piece m (inr p) up =
-    let counts = taken_up (listens x.standing.state) x.held piece 0 p.up p.fed.0 in
-    none_left piece (counts.1 p.to_feed.waits)
+    let counts = taken_up plain plain-are (listens x.standing.state) x.held piece 0 p.up p.fed.0 in
+    none_left plain plain-are piece (counts.1 p.to_feed.waits)
 
 -- ---- what follows a pull
 
--- nothing was due, and nothing was called for
+-- nothing was due, and the session wasn't called
 none_called : (turns : List Turn) (last : Link) (x y : Machine) → Goes Same x turns last y → causes_of Same turns ≡ [] → y ≡ x
 none_called [] last x y goes none = goes.1
 none_called (t ∷ turns) last x y goes none = absurd (let not : t.cause ∷ causes_of (link_after t) turns ≡ [] = none in cc)
@@ -91,6 +93,6 @@ module _ (x : Machine) (r0 : Records) (piece : List ℕ) (actions : ArrayVec Act
       ends (record { found = None; pulled = pulled; does = quiet refl }) (quiet refl) pulled
   pulled_once (suc n) false pulled quiet =
       let some : nat_lt 0 (suc n) ≡ true = grind arith in
-      let within = counts_within (listens x.standing.state) x.held piece (suc n) (pulls_as_fed x piece (suc n) None m pulled).fed.0 in
+      let within = counts_within plain plain-are (listens x.standing.state) x.held piece (suc n) (pulls_as_fed x piece (suc n) None m pulled).fed.0 in
       subst (λ (b : Bool). PullsOnce (at x r0) piece new (if b then Some (suc n) else None)) (sym some)
       (goes_on (suc n) (record { found = None; pulled = pulled; does = quiet refl }) within (lighter hearer is_hearer x m piece (suc n) within (omega arith)))

@@ -1,4 +1,4 @@
--- What a session that is told what became of its connection does to the connection: behind `Failed` nothing, and behind `Connected` none is sought.
+-- How a session uses its connection after an event of it: after `Failed` it doesn't use it, and after `Connected` it seeks none.
 use Rattle.bgp_host.proofs.Prelude.{◌≡◌, Bool, true, false, List, [], ◌∷◌, ◌++◌, ◌⊎◌, inl, inr, refl, sym, ap, subst, ◌∙◌, Action, Connected, Failed, State}
 use Rattle.bgp_host.proofs.Prelude.{Standing, on_event, only_if, disarmed, flushed, Link, Same, Up, Down, Deed, actions_of, sent, link_of, link_behind, Cause}
 use Rattle.bgp_host.proofs.Prelude.{Told, Gives, first_link, Hosted, RunsFrom, OneTurn, IsNotUp}
@@ -7,7 +7,7 @@ use Rattle.bgp_machine.specs.declared.timer.Timer.{Timer}
 use Rattle.bgp_machine.specs.declared.timer.Timers.{Timers}
 use Rattle.bgp_host.proofs.Turns.{runs_none}
 
--- ---- actions that ask nothing of the connection that can fail
+-- ---- actions without a use of the connection that can fail
 
 abbrev IsStill : Action → Type 0
 IsStill Connect = ⊥
@@ -67,7 +67,7 @@ failed_still x State.OpenSent = (tt, (tt, tt))
 failed_still x State.OpenConfirm = left_still x.running x.state
 failed_still x State.Established = left_still x.running x.state
 
--- a session that is told that its connection failed leaves it at that
+-- a session that receives `Failed` doesn't use the connection
 pub failed_ends : (old new : Hosted) (link : Link) → OneTurn (Told Failed) old new link → link ≡ Same
 failed_ends old new link one =
     let gives : Gives old.session (Told Failed) (actions_of one.turn.deeds) new.session =
@@ -117,7 +117,7 @@ connected_seeks_none x State.OpenSent = tt
 connected_seeks_none x State.OpenConfirm = tt
 connected_seeks_none x State.Established = tt
 
--- a session that is told that its connection stands seeks none
+-- a session that receives `Connected` seeks no connection
 pub connected_ends : (old new : Hosted) (link : Link) → OneTurn (Told Connected) old new link → IsNotUp link
 connected_ends old new link one =
     let gives : Gives old.session (Told Connected) (actions_of one.turn.deeds) new.session =
@@ -125,7 +125,7 @@ connected_ends old new link one =
     subst IsNotUp (sym (one.became ∙ ap (λ (c : Cause). link_behind (first_link c) one.turn.deeds) one.is_cause))
     (all_not_up Same one.turn.deeds (subst SeekNone (sym gives.0) (connected_seeks_none old.session.standing old.session.standing.state)) tt)
 
--- nothing became of the connection
+-- nothing happened to the connection
 pub left_as_it_is : (link : Link) (h : Hosted) → (link ≡ Same) ⊎ (link ≡ Up) → IsNotUp link → RunsFrom link h [] Same h
 left_as_it_is link h (inl is) not = subst (λ (l : Link). RunsFrom l h [] Same h) (sym is) (runs_none Same h)
 left_as_it_is link h (inr is) not = absurd (subst IsNotUp is not)

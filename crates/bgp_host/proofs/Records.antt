@@ -1,4 +1,4 @@
--- Records that grow, and deeds behind deeds.
+-- Records that grow by several additions.
 use Rattle.bgp_host.proofs.Prelude.{List, [], ◌++◌, sym, ap, Option, None, Some, Result, Ok, Err, ◌∙◌, append_assoc, OnErr, append-nil, Grows}
 
 pub grows_none : {A : Type 0} → (record_ : Option (List A)) → Grows record_ record_ []

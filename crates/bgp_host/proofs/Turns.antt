@@ -1,4 +1,4 @@
--- Calls of a session, one behind the other.
+-- Calls of a session, one after another.
 use Rattle.bgp_host.proofs.Prelude.{◌≡◌, ℕ, List, [], ◌∷◌, ◌++◌, drop, Option, None, Some, refl, sym, ap, ap₂, subst, ◌∙◌, append_assoc, inl, inr, flat_map}
 use Rattle.bgp_host.proofs.Prelude.{flat_map-append, append-nil, ArrayVec, Action, IsPulled, IsSent, Machine, own_octets, Link, Same, Call, Sent, Tick}
 use Rattle.bgp_host.proofs.Prelude.{Notice, Grows, sends, sent, all_calls, Records, Answers, Cause, Told, Heard, Gave, Gives, first_calls, first_link, Turn}
@@ -25,7 +25,7 @@ at session records = record { session = session; records = records }
 abbrev pub with_calls : Option (List Call) → Records → Records
 with_calls calls r = record { calls = calls; ticks = r.ticks; notices = r.notices }
 
--- a call of the session, what was sent before its actions, and these
+-- a call of the session, what was sent before its actions, and the actions
 pub one_turn : (cause : Cause) (x y : Machine) (actions : List Action) (before : Option (List Call)) (r new : Records) (link : Link)
     → Gives x cause actions y → Grows before r.calls (first_calls cause) → Acts (own_octets y.settings) (first_link cause) actions y.standing.state r new link
     → OneTurn cause (at x (with_calls before r)) (at y new) link
@@ -48,7 +48,7 @@ one_turn cause x y actions before r new link gives first acts =
       became = d.became;
     }
 
--- ---- calls behind calls
+-- ---- calls one after another
 
 pub runs_none : (link : Link) (h : Hosted) → RunsFrom link h [] link h
 runs_none link h = record {
@@ -60,7 +60,7 @@ runs_none link h = record {
   noticed = grows_none h.records.notices;
 }
 
--- a call, and others behind it
+-- a call, and others after it
 pub next_turn : (first : Link) (cause : Cause) (old mid new : Hosted) (link last : Link) (causes : List Cause)
     → IsDue first cause → OneTurn cause old mid link → RunsFrom link mid causes last new → RunsFrom first old (cause_if_free first cause ++ causes) last new
 next_turn first cause old mid new link last causes due one runs = record {
@@ -77,7 +77,7 @@ next_turn first cause old mid new link last causes due one runs = record {
   noticed = grows_both old.records.notices mid.records.notices new.records.notices (turn_notices one.turn) (flat_map turn_notices runs.turns) one.noticed runs.noticed;
 }
 
--- a call alone
+-- a single call
 pub last_turn : (first : Link) (cause : Cause) (old new : Hosted) (link : Link) → IsDue first cause → OneTurn cause old new link
     → RunsFrom first old (cause_if_free first cause ++ []) link new
 last_turn first cause old new link due one = next_turn first cause old new new link link [] due one (runs_none link new)
@@ -102,7 +102,7 @@ grows_flat : {A : Type 0} (f : Turn → List A) (old mid new : Option (List A)) 
 grows_flat f old mid new ts us first second =
     subst (Grows old new) (sym (flat_map-append f ts us)) (grows_both old mid new (flat_map f ts) (flat_map f us) first second)
 
--- calls behind calls
+-- calls after calls
 pub runs_both : (a b e : Link) (old mid new : Hosted) (causes later : List Cause) → RunsFrom a old causes b mid → RunsFrom b mid later e new
     → RunsFrom a old (causes ++ later) e new
 runs_both a b e old mid new causes later first second = record {
@@ -114,7 +114,7 @@ runs_both a b e old mid new causes later first second = record {
   noticed = grows_flat turn_notices old.records.notices mid.records.notices new.records.notices first.turns second.turns first.noticed second.noticed;
 }
 
--- nothing was called for
+-- no call
 pub runs_same : (x y : Machine) (calls : Option (List Call)) (ticks : Option (List Tick)) (notices : Option (List Notice)) → y ≡ x
     → Runs (hosted x calls ticks notices) [] (hosted y calls ticks notices)
 runs_same x y calls ticks notices same =
@@ -145,7 +145,7 @@ pulls_next piece (Heard whole count ∷ causes) rest n is = (is.0, pulls_next (d
 pulls_next piece (Told event ∷ causes) rest n is = absurd is
 pulls_next piece (Gave u octets answer ∷ causes) rest n is = absurd is
 
--- pulls so far, and one more that did something
+-- pulls so far, and one more with an outcome
 pub heard_next : (old mid new : Hosted) (piece rest : List ℕ) (causes : List Cause) (found : Option ℕ) (n : ℕ) (later : List ℕ)
     → Runs old causes mid → ArePulls piece causes rest → PullsOnce mid rest new found → found ≡ Some n → later ≡ drop n rest
     → (all : List Cause) × Runs old all new × ArePulls piece all later
@@ -156,7 +156,7 @@ heard_next old mid new piece rest causes found n later runs pulls once is back =
       subst (ArePulls piece (causes ++ Heard rest n ∷ [])) (sym back) (pulls_next piece causes rest n pulls),
     )
 
--- and one that did nothing
+-- and one without
 pub heard_all : (old mid new : Hosted) (piece rest : List ℕ) (causes : List Cause) (found : Option ℕ)
     → Runs old causes mid → ArePulls piece causes rest → PullsOnce mid rest new found → found ≡ None → HearsAll old piece new
 heard_all old mid new piece rest causes found runs pulls once is =
@@ -169,7 +169,7 @@ heard_all old mid new piece rest causes found runs pulls once is =
       all = ends.all;
     }
 
--- where a pull fails, what was heard so far was heard
+-- where a pull fails, the octets received so far remain received
 pub heard_some : (old mid new : Hosted) (piece rest : List ℕ) (causes : List Cause) → Runs old causes mid → ArePulls piece causes rest → Runs mid [] new → HearsSome old piece new
 heard_some old mid new piece rest causes runs pulls ends = record {
   causes = causes ++ [];

@@ -1,4 +1,4 @@
--- Actions that are carried out, in order: what each asks of the connection, the clock and the observer.
+-- Actions that are carried out, in order: how each uses the connection, the clock and the observer.
 use Rattle.std.specs.Prelude.{◌≡◌, ℕ, Bool, true, false, List, [], ◌∷◌, ◌++◌, map, Option}
 use Rattle.std.specs.List.{flat_map}
 use Rattle.bgp_machine.specs.declared.action.Action.{Action}
@@ -8,7 +8,7 @@ use Rattle.bgp_host.specs.declared.link.Link.{Link}
 use Rattle.bgp_host.specs.declared.link.Link.TheVariants.{Up, Down}
 use Rattle.bgp_host.specs.Records.{Call, Sought, Sent, Closed, Tick, Armed, Disarmed, Notice, Announced, Withdrawn, Flushed, Grows}
 
--- ---- what an action asks for
+-- ---- the calls for an action
 
 abbrev pub ticks_of : Action → List Tick
 ticks_of (Arm timer seconds) = Armed timer seconds ∷ []
@@ -26,7 +26,7 @@ abbrev pub sends : Link → List ℕ → Bool → List Call
 sends Down octets answer = []
 sends _ octets answer = Sent octets answer ∷ []
 
--- asked of the connection, where the speaker's own OPEN has these octets, and it gave this answer
+-- the calls of the connection, where the speaker's own OPEN has these octets, and it returned `answer`
 abbrev pub calls_of : List ℕ → Link → Action → Bool → List Call
 calls_of own link Connect answer = Sought answer ∷ []
 calls_of own link Close answer = Closed ∷ []
@@ -35,9 +35,9 @@ calls_of own link SendKeepalive answer = sends link keepalive_octets answer
 calls_of own link (SendNotification why) answer = sends link (notification_octets why) answer
 calls_of _ _ _ _ = []
 
--- ---- what became of the connection
+-- ---- the state of the connection
 
--- it stands where it was sought, or can't be had
+-- it is up where one was sought and found, else down
 abbrev pub sought : Bool → Link
 sought true = Up
 sought false = Down
@@ -57,7 +57,7 @@ link_of link _ answer = link
 
 -- ---- actions that were carried out
 
--- an action, and what the connection answered: true where it wasn't asked
+-- an action, and what the connection returned: true where it wasn't called
 pub record Deed : Type 0 where
   pub action : Action
   pub answer : Bool
@@ -65,7 +65,7 @@ pub record Deed : Type 0 where
 abbrev pub actions_of : List Deed → List Action
 actions_of deeds = map (λ d. d.action) deeds
 
--- what all of them asked of the connection
+-- all calls of the connection
 abbrev pub all_calls : List ℕ → Link → List Deed → List Call
 all_calls own link [] = []
 all_calls own link (d ∷ later) = calls_of own link d.action d.answer ++ all_calls own (link_of link d.action d.answer) later
@@ -86,7 +86,7 @@ pub record Records : Type 0 where
   pub ticks : Option (List Tick)
   pub notices : Option (List Notice)
 
--- the connection was asked for these calls, by its answer, and this became of it
+-- the connection received these calls, depending on what it returned, and `behind` is its state then
 pub record Answers (calls : Bool → List Call) (links : Bool → Link) (old new : Option (List Call)) (behind : Link) : Type 0 where
   pub answer : Bool
   pub asked : Grows old new (calls answer)
@@ -95,7 +95,7 @@ pub record Answers (calls : Bool → List Call) (links : Bool → Link) (old new
 abbrev pub Asks : List ℕ → Link → Action → Option (List Call) → Option (List Call) → Link → Type 0
 Asks own link action old new behind = Answers (calls_of own link action) (link_of link action) old new behind
 
--- Each of the actions was carried out, once and in order. The connection was as `first` says before the first of them.
+-- Each of the actions was carried out, once and in order. The connection was in state `first` before the first of them.
 pub record CarriesOut (own : List ℕ) (first : Link) (actions : List Action) (old new : Records) (link : Link) : Type 0 where
   pub deeds : List Deed
   pub in_order : actions_of deeds ≡ actions

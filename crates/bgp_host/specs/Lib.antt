@@ -1,4 +1,4 @@
--- What carries out the actions of a session, and what it is asked.
+-- What carries out the actions of a session, and the calls that it makes.
 pub mod Records
 pub mod Deeds
 pub mod Turns

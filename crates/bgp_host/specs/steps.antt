@@ -1,2 +1,2 @@
--- What only private functions cite: steps of proofs, which nobody has to believe.
+-- Definitions that only private functions cite: steps of proofs, which nobody has to trust.
 pub mod Steps

@@ -12,7 +12,7 @@ use arrayvec::ArrayVec;
 use bgp_frame::{Kind, Notification, head};
 use bgp_machine::{Action, Actions};
 
-/// The octets of the longest message.
+/// The length of the longest message.
 const MESSAGE_MAX: usize = 4096;
 
 /// The whole message of a NOTIFICATION.
@@ -53,7 +53,7 @@ pub(crate) fn put<C: Connection>(connection: &mut C, link: Link, octets: &[u8]) 
     }
 }
 
-/// Asks the connection for what an action asks of it.
+/// Makes the call of the connection for an action.
 #[tactic(auto, using(crate::proofs::Records::grows_none))]
 fn ask<C: Connection>(connection: &mut C, own: &[u8], link: Link, action: &Action) -> Link
     ensures { Asks own.now link action.now (C.calls connection.old) (C.calls connection.new) result }
@@ -75,7 +75,7 @@ fn ask<C: Connection>(connection: &mut C, own: &[u8], link: Link, action: &Actio
     }
 }
 
-/// Asks the clock for what an action asks of it.
+/// Makes the call of the clock for an action.
 #[tactic(auto, using(crate::proofs::Records::grows_none))]
 fn tick<K: Clock>(clock: &mut K, action: &Action)
     ensures { Grows (K.ticks clock.old) (K.ticks clock.new) (ticks_of action.now) }
@@ -94,7 +94,7 @@ fn tick<K: Clock>(clock: &mut K, action: &Action)
     }
 }
 
-/// Tells the observer what an action says of routes.
+/// Makes the call of the observer for an action.
 #[tactic(auto, using(crate::proofs::Records::grows_none))]
 fn notice<O: Observer>(observer: &mut O, action: &Action)
     ensures { Grows (O.notices observer.old) (O.notices observer.new) (notices_of action.now) }

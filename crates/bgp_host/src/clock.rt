@@ -9,7 +9,7 @@ use bgp_machine::Timer;
 pub trait Clock {
     ghost ticks: { Self → Option (List Tick) } = { λ _. None };
 
-    /// Starts a timer of so many seconds, also where it runs already.
+    /// Starts a timer of this number of seconds, also if it runs already.
     fn arm(&mut self, timer: Timer, seconds: u16)
         ensures kept { Grows (ticks self.old) (ticks self.new) (Armed timer seconds ∷ []) };
 

@@ -7,15 +7,15 @@ ghost use Rattle.bgp_host.specs.Records.{Call, Sought, Sent, Closed, Grows};
 pub trait Connection {
     ghost calls: { Self → Option (List Call) } = { λ _. None };
 
-    /// Seeks a connection. Answers whether one stands.
+    /// Seeks a connection. Returns whether one is up.
     fn seek(&mut self) -> bool
         ensures kept { Grows (calls self.old) (calls self.new) (Sought result ∷ []) };
 
-    /// Sends octets. Answers whether all were sent: where they weren't, the connection has failed.
+    /// Sends octets. Returns whether all were sent: if not, the connection has failed.
     fn send(&mut self, octets: &[u8]) -> bool
         ensures kept { Grows (calls self.old) (calls self.new) (Sent octets.now result ∷ []) };
 
-    /// Closes the connection, or gives up the one that is sought.
+    /// Closes the connection, or stops seeking one.
     fn close(&mut self)
         ensures kept { Grows (calls self.old) (calls self.new) (Closed ∷ []) };
 }

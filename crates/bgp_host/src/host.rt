@@ -16,8 +16,8 @@ use bgp_open::Config;
 use bgp_update::Update;
 use std::alloc::{AllocError, Global};
 
-/// A session with its connection, its timers and who is told of its routes. It carries out what the session wants done, and tells the session
-/// at once what becomes of the connection.
+/// A session with its connection, its timers and its observer. It carries out what the session wants done, and reports changes of
+/// the connection to the session at once.
 #[derive(Drop)]
 pub struct Host<C: Drop, K: Drop, O: Drop> {
     session: Session,
@@ -25,11 +25,11 @@ pub struct Host<C: Drop, K: Drop, O: Drop> {
     pub connection: C,
     /// The timers.
     pub clock: K,
-    /// Who is told of routes, and of the state.
+    /// The observer of routes, and of the state.
     pub observer: O,
 }
 
-// How many octets a pull took, where it did something.
+// The number of octets that a pull took, if it made progress.
 fn taken_by(taken: usize, found: bool) -> Option<usize>
     ensures { result ≡ taken_by taken found }
 {
@@ -56,14 +56,14 @@ impl<C: Connection + Drop, K: Clock + Drop, O: Observer + Drop> Host<C, K, O> {
         }
     }
 
-    /// The session: where it stands, and what both agreed on.
+    /// The session, with its state and what both agreed on.
     pub fn session(&self) -> &Session
         ensures { result.now ≡ self.now.session }
     {
         &self.session
     }
 
-    // Carries out the actions of a call, and tells where the session stands.
+    // Carries out the actions of a call, and reports the session's state.
     fn act(&mut self, link: Link, actions: &Actions) -> Link
         ensures acts { Acts (own_octets self.old.session.settings) link actions.now.items self.old.session.standing.state
             (record { calls = C.calls self.old.connection; ticks = K.ticks self.old.clock; notices = O.notices self.old.observer })
@@ -82,7 +82,7 @@ impl<C: Connection + Drop, K: Clock + Drop, O: Observer + Drop> Host<C, K, O> {
         link
     }
 
-    // Tells the session an event once.
+    // Passes an event to the session once.
     fn tell_once(&mut self, event: Event) -> Link
         ensures { OneTurn (Told event) (hosted self.old.session (C.calls self.old.connection) (K.ticks self.old.clock) (O.notices self.old.observer))
             (hosted self.new.session (C.calls self.new.connection) (K.ticks self.new.clock) (O.notices self.new.observer)) result }
@@ -91,7 +91,7 @@ impl<C: Connection + Drop, K: Clock + Drop, O: Observer + Drop> Host<C, K, O> {
         self.act(Link::Same, &actions)
     }
 
-    // Tells the session that a connection stands, where one does.
+    // Reports to the session that a connection is up, if one is.
     fn rise(&mut self, link: Link) -> Link
         ensures runs { RunsFrom link (hosted self.old.session (C.calls self.old.connection) (K.ticks self.old.clock) (O.notices self.old.observer))
             [] result (hosted self.new.session (C.calls self.new.connection) (K.ticks self.new.clock) (O.notices self.new.observer)) }
@@ -103,7 +103,7 @@ impl<C: Connection + Drop, K: Clock + Drop, O: Observer + Drop> Host<C, K, O> {
         }
     }
 
-    // Tells the session that its connection failed, where it did.
+    // Reports to the session that its connection failed, if it did.
     fn fall(&mut self, link: Link)
         requires { IsNotUp link }
         ensures { RunsFrom link (hosted self.old.session (C.calls self.old.connection) (K.ticks self.old.clock) (O.notices self.old.observer))
@@ -117,7 +117,7 @@ impl<C: Connection + Drop, K: Clock + Drop, O: Observer + Drop> Host<C, K, O> {
         }
     }
 
-    // Tells the session what became of its connection.
+    // Reports changes of the connection to the session.
     fn follow(&mut self, link: Link)
         ensures { RunsFrom link (hosted self.old.session (C.calls self.old.connection) (K.ticks self.old.clock) (O.notices self.old.observer))
             [] Same (hosted self.new.session (C.calls self.new.connection) (K.ticks self.new.clock) (O.notices self.new.observer)) }
@@ -126,7 +126,7 @@ impl<C: Connection + Drop, K: Clock + Drop, O: Observer + Drop> Host<C, K, O> {
         self.fall(link);
     }
 
-    /// Tells the session what happens, and carries out what it answers.
+    /// Passes an event to the session, and carries out the actions that it returns.
     pub fn tell(&mut self, event: Event)
         ensures { Runs (hosted self.old.session (C.calls self.old.connection) (K.ticks self.old.clock) (O.notices self.old.observer))
             (Told event ∷ []) (hosted self.new.session (C.calls self.new.connection) (K.ticks self.new.clock) (O.notices self.new.observer)) }
@@ -135,8 +135,8 @@ impl<C: Connection + Drop, K: Clock + Drop, O: Observer + Drop> Host<C, K, O> {
         self.follow(link);
     }
 
-    // Lets the session pull from the front of a piece, and carries out what it answers. Answers how many octets it took, and None where nothing
-    // is left to do.
+    // Lets the session pull from the front of a piece, and carries out the actions that it returns. Returns the number of octets consumed, or None where
+    // nothing is left to do.
     #[tactic(auto, using(crate::proofs::Turns::runs_same))]
     fn pull(
         &mut self,
@@ -155,10 +155,11 @@ impl<C: Connection + Drop, K: Clock + Drop, O: Observer + Drop> Host<C, K, O> {
         Ok(taken_by(taken, found))
     }
 
-    /// Hands octets of the peer's to the session, and carries out what it answers. What is left of the piece when the session leaves is dropped.
+    /// Hands octets of the peer's to the session, and carries out the actions that it returns. What is left of the piece when the session leaves is
+    /// dropped.
     ///
     /// # Errors
-    /// `AllocError` where an allocation failed: the first octets were heard, and the session stands behind them.
+    /// `AllocError` where an allocation failed: the session has received the first octets, and continues after them.
     pub fn hear(&mut self, alloc: Global, piece: &[u8]) -> Result<(), AllocError>
         ensures ok { OnOk result (HearsAll (hosted self.old.session (C.calls self.old.connection) (K.ticks self.old.clock) (O.notices self.old.observer)) piece.now
             (hosted self.new.session (C.calls self.new.connection) (K.ticks self.new.clock) (O.notices self.new.observer))) }
@@ -174,7 +175,7 @@ impl<C: Connection + Drop, K: Clock + Drop, O: Observer + Drop> Host<C, K, O> {
         Ok(())
     }
 
-    /// Sends the peer an UPDATE, and carries out what the session answers.
+    /// Sends the peer an UPDATE, and carries out the actions that the session returns.
     ///
     /// # Errors
     /// As `Session::send`: nothing was done then.

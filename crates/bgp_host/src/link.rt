@@ -1,12 +1,12 @@
-//! What became of the connection.
+//! Changes of the connection.
 
-/// What the actions of one call of the session made of the connection, as the session has to be told.
+/// The change of the connection by the actions of one call of the session, which is to be reported to it.
 #[derive(Clone, Copy, PartialEq, Eq)]
 pub(crate) enum Link {
-    /// It is as it was.
+    /// No change.
     Same,
-    /// One was sought, and stands.
+    /// One was sought, and is up.
     Up,
-    /// It failed, or the one that was sought can't be had.
+    /// It failed, or none was found.
     Down,
 }

@@ -1,4 +1,4 @@
-//! Who is told of a session's routes.
+//! The observer of a session's routes.
 
 ghost use Rattle.std.specs.Prelude.{◌≡◌, List, [], ◌∷◌, Option, None};
 ghost use Rattle.bgp_host.specs.Records.{Notice, Announced, Withdrawn, Flushed, Stood, Grows};
@@ -6,7 +6,7 @@ ghost use Rattle.bgp_host.specs.Records.{Notice, Announced, Withdrawn, Flushed, 
 use bgp_machine::State;
 use bgp_update::{PathInfo, Routes, Update};
 
-/// Who is told what becomes of the peer's routes, and where the session stands. It may keep a record of that.
+/// Observes the peer's routes and the state of the session. It may keep a record of that.
 pub trait Observer {
     ghost notices: { Self → Option (List Notice) } = { λ _. None };
 
@@ -18,11 +18,11 @@ pub trait Observer {
     fn withdraw(&mut self, routes: &Routes)
         ensures kept { Grows (notices self.old) (notices self.new) (Withdrawn routes.now ∷ []) };
 
-    /// All routes of the peer are gone.
+    /// All routes of the peer are withdrawn.
     fn flush(&mut self)
         ensures kept { Grows (notices self.old) (notices self.new) (Flushed ∷ []) };
 
-    /// Where the session stands, behind each call of it.
+    /// The state of the session, after each call of it.
     fn stand(&mut self, state: State)
         ensures kept { Grows (notices self.old) (notices self.new) (Stood state ∷ []) };
 }

@@ -1,3 +1,3 @@
--- Lemmas of runs that are written down.
+-- Lemmas of traced runs.
 pub mod Wholes
 pub mod Traces

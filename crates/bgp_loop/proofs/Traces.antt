@@ -1,4 +1,4 @@
--- What is written of a run.
+-- The trace of a run.
 use Rattle.bgp_wire.proofs.Std.{◌≡◌, ℕ, true, List, [], ◌∷◌, ◌++◌, map, Ok, Err, sym, ap, subst, ◌∙◌, append_assoc}
 use Rattle.std.proofs.lemmas.List.{append-nil}
 use Rattle.bgp_engine.specs.declared.fault.ToolFault.{ToolFault}
@@ -13,7 +13,7 @@ use Rattle.bgp_script.specs.Script.{script_of}
 use Rattle.bgp_loop.specs.Loop.{Io, IsTraced, AnswersTrace}
 use Rattle.bgp_loop.specs.Trace.{Coming, with_octets, nothing_traced, Traced, with_coming, traced}
 
--- ---- octets that come are joined to those that came
+-- ---- received octets are appended to those received before
 
 abbrev with_all : Coming → List ℕ → Coming
 with_all c octets = record { place = c.place; octets = octets }
@@ -31,7 +31,7 @@ came_to_b t (octet ∷ octets) =
 -- ---- what the code has of a run
 
 module _ (text : List ℕ) (io : Io) (report : Report) where
-  -- the tracer was told what the moves show
+  -- what the moves show was reported to the tracer
   pub traces_so : (script : Script) (moves : List Move) (old new : Traced) → script_of text ≡ Ok script → moves ≡ script.moves → old ≡ nothing_traced
       → (io.honest ≡ true → IsReported script.a script.b moves report) → io.failed_new ≡ failed_behind io.failed_old report.answers
       → (io.honest ≡ true → new ≡ observed traced old (sights_behind script.a script.b moves report.answers)) → IsTraced text io report new.text

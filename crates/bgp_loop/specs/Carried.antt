@@ -1,17 +1,17 @@
--- What it is that octets were carried from one end of a connection to the other.
+-- The meaning of octets carried from one end of a connection to the other.
 use Rattle.std.specs.Prelude.{◌≡◌, ℕ, List, Option, Some}
 use Rattle.std.specs.Io.KnownBytes.{Appends, Consumes}
 use Rattle.bgp_session.specs.declared.side.Side.{Side}
 use Rattle.bgp_session.specs.declared.side.Side.TheVariants.{A, B}
 use Rattle.bgp_loop.specs.declared.tcp.Ends.{Ends}
 
--- the octets that went were appended at the one end, those that came were consumed at the other, and they are the same
+-- the octets sent were appended at the one end, those received were consumed at the other, and they are the same
 pub record IsCarried (went came : List ℕ) (from_old from_new to_old to_new : Option (List ℕ)) : Type 0 where
   pub stand : came ≡ went
   pub appended : Appends from_old from_new went
   pub consumed : Consumes to_old to_new came
 
--- what an end holds of what was written to it, and what it has left to be read, where they are known
+-- what an end holds of what was written to it, and what remains to be read from it, where they are known
 pub record Known (S : Type 0) : Type 0 where
   pub contents : S → Option (List ℕ)
   pub remaining : S → Option (List ℕ)

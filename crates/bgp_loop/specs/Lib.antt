@@ -1,4 +1,4 @@
--- A script that is run: what is written of it.
+-- A script that is run, and what is written of it.
 pub mod Trace
 pub mod Loop
 pub mod Carried

@@ -11,7 +11,7 @@ use Rattle.bgp_script.specs.ReportText.{report_text}
 use Rattle.bgp_script.specs.Script.{script_of}
 use Rattle.bgp_loop.specs.Trace.{trace_text}
 
--- a wire and a writer, before a run and behind it: whether the wire is honest, its failures, and what the writer holds
+-- a wire and a writer, before a run and after it: whether the wire is honest, its failures, and what the writer holds
 pub record Io : Type 0 where
   pub honest : Bool
   pub failed_old : ℕ
@@ -34,7 +34,7 @@ pub record Finishes (text : List ℕ) (io : Io) (tally : Tally) : Type 0 where
   pub wrote : Appends io.writer_old io.writer_new (report_text report)
   pub counts : tally ≡ no_tally
 
--- a front of it was written
+-- a prefix of it was written
 pub record FailsToWrite (text : List ℕ) (io : Io) : Type 0 where
   pub report : Report
   pub ran : IsRun text io report
@@ -58,9 +58,9 @@ Answers text io (Err (ToolFault.Clean n why)) = ⊥
 Answers text io (Err (ToolFault.NoContext why)) = ⊥
 Answers text io (Err ToolFault.Net) = ⊥
 
--- ---- what came of each move is written before the report
+-- ---- the trace of the moves is written before the report
 
--- what was written of the moves: over an honest wire all that an observer of them is told, and nothing else
+-- what was written of the moves: over an honest wire all that is reported to an observer of them, and nothing else
 pub record IsTraced (text : List ℕ) (io : Io) (report : Report) (trace : List ℕ) : Type 0 where
   pub ran : IsRun text io report
   pub traced : io.honest ≡ true → trace ≡ trace_text ran.script report
@@ -73,7 +73,7 @@ pub record FinishesTrace (text : List ℕ) (io : Io) (tally : Tally) : Type 0 wh
   pub wrote : Appends io.writer_old io.writer_new (trace ++ report_text report)
   pub counts : tally ≡ no_tally
 
--- a front of both was written
+-- a prefix of both was written
 pub record FailsToTrace (text : List ℕ) (io : Io) : Type 0 where
   pub report : Report
   pub trace : List ℕ
@@ -95,13 +95,13 @@ pub record IsOfText (writer_old writer_new : Option (List ℕ)) (outcome : Resul
   pub failures : ℕ
   pub answers : Answers text (record { honest = true; failed_old = 0; failed_new = failures; writer_old = writer_old; writer_new = writer_new }) outcome
 
--- memory ran out, or the file couldn't be read
+-- an allocation failed, or the file couldn't be read
 abbrev pub IsOfFile : ToolFault → Type 0
 IsOfFile ToolFault.Memory = Unit {0}
 IsOfFile ToolFault.Read = Unit {0}
 IsOfFile _ = ⊥
 
--- memory ran out, the file couldn't be read or has too many octets, or the listener couldn't be set up
+-- an allocation failed, the file couldn't be read or has too many octets, or the listener couldn't be set up
 abbrev pub IsOfSetUp : ToolFault → Type 0
 IsOfSetUp ToolFault.Memory = Unit {0}
 IsOfSetUp ToolFault.Read = Unit {0}
@@ -112,7 +112,7 @@ abbrev pub RunsFile : Option (List ℕ) → Option (List ℕ) → Result Tally T
 RunsFile writer_old writer_new outcome =
     IsOfText writer_old writer_new outcome ⊎ (((fault : ToolFault) × (outcome ≡ Err fault) × IsOfSetUp fault) × Keeps writer_old writer_new)
 
--- the same with what came of each move
+-- the same with the trace of the moves
 pub record IsOfTextTraced (writer_old writer_new : Option (List ℕ)) (outcome : Result Tally ToolFault) : Type 0 where
   pub text : List ℕ
   pub failures : ℕ

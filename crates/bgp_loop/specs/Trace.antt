@@ -15,9 +15,9 @@ use Rattle.bgp_script.specs.declared.script.Script.{Script}
 use Rattle.bgp_script.specs.NoteList.{side_name}
 use Rattle.bgp_script.specs.TraceText.{move_line, step_line, event_words, heard_words, tried_words, cut_line}
 
--- ---- what came to a side
+-- ---- what a side received
 
--- the offset, in this direction of this connection, of the message that comes, and its octets so far
+-- the offset, in this direction of this connection, of the message that arrives, and its octets so far
 pub record Coming : Type 0 where
   pub place : ℕ
   pub octets : List ℕ
@@ -28,17 +28,17 @@ nothing_came = record { place = 0; octets = [] }
 abbrev pub with_octets : Coming → List ℕ → Coming
 with_octets c octets = record { place = c.place; octets = c.octets ++ octets }
 
--- the message was heard, and another comes behind it: the greatest offset stays
+-- the message was received, and another follows it: the offset saturates
 abbrev pub behind_message : Coming → Coming
 behind_message c = record { place = min (c.place + length c.octets) 18446744073709551615; octets = [] }
 
 -- ---- a message
 
--- the message that octets are, or the fault of their header, where they are just that
+-- the message in octets, or the fault of their header, where they are exactly that
 abbrev pub whole_of : List ℕ → Option (Result Message HeadFault)
 whole_of b = if length b == wanted b then Some (content b) else None
 
--- the lines of a message as `show` prints them, behind the name of the side that heard it
+-- the lines of a message as `show` prints them, after the name of the side that received it
 abbrev pub message_lines : Side → Context → ℕ → ℕ → Message → List ℕ
 message_lines side ctx place len m = side_name side ++ (codes " " ++ outcome_lines place len (out_of ctx m))
 
@@ -53,14 +53,14 @@ lines_of side ctx c (Some (Err fault)) = fault_lines side c.place fault
 abbrev pub heard_lines : Side → Context → Coming → List ℕ
 heard_lines side ctx c = lines_of side ctx c (whole_of c.octets)
 
--- before both agreed on anything, a message is judged as `show` does without flags
+-- before both agreed on anything, a message is judged as by `show` without flags
 abbrev pub context_or_none : Option Context → Context
 context_or_none None = record { internal = false; as4 = false; ip4 = false; ip6 = false; hold = 0 }
 context_or_none (Some ctx) = ctx
 
 -- ---- a run
 
--- what is written so far, and what came to each side
+-- what is written so far, and what each side received
 pub record Traced : Type 0 where
   pub text : List ℕ
   pub a : Coming
@@ -80,7 +80,7 @@ abbrev pub with_coming : Side → Traced → Coming → Traced
 with_coming A t c = record { text = t.text; a = c; b = t.b }
 with_coming B t c = record { text = t.text; a = t.a; b = c }
 
--- offsets are counted from the connection on
+-- offsets are counted from the start of the connection
 abbrev pub begins_at : Event → Side → Traced → Traced
 begins_at Connected side t = with_coming side t nothing_came
 begins_at _ side t = t
@@ -88,7 +88,7 @@ begins_at _ side t = t
 abbrev pub message_heard : Side → Context → Traced → Traced
 message_heard side ctx t = with_coming side (adds t (heard_lines side ctx (coming_to side t))) (behind_message (coming_to side t))
 
--- what is written of one thing that an observer is told: octets that come are kept until a message is heard
+-- what is written of one report to an observer: octets are kept until a message is received
 abbrev pub traced : Traced → Sight → Traced
 traced t (Begun one) = adds t (move_line one)
 traced t (Told side event state actions) = adds (begins_at event side t) (step_line side (event_words event) state actions)

@@ -1,4 +1,4 @@
-//! What stands in a file: its octets, and a script that is run.
+//! Reading a file, and running the script in it.
 
 ghost use Rattle.std.specs.Prelude.{◌≤◌, length, IfOk, IfErr};
 ghost use Rattle.bgp_loop.specs.Loop.{IsOfFile, RunsFile, TracesFile};
@@ -15,7 +15,7 @@ use std::fs::Files;
 use std::io::{ErrorKind, Read, Write};
 use std::net::Net;
 
-/// The octets of a file from its front on, at most so many.
+/// The first octets of a file, at most this many.
 ///
 /// # Errors
 /// `Read` where the file can't be opened or read, and `Memory` where an allocation failed.
@@ -39,7 +39,7 @@ pub fn read_file<R: Files>(
     }
 }
 
-// The text of a file, where a script may have so many octets.
+// The text of a file, where it isn't longer than a script may be.
 fn text_of_file<R: Files>(rt: &R, alloc: Global, path: &str) -> Result<Vec<u8>, ToolFault>
     ensures ok { IfOk result (λ text. length text.items ≤ SCRIPT_MAX) }
     ensures fault { IfErr result IsOfFile }
@@ -51,7 +51,7 @@ fn text_of_file<R: Files>(rt: &R, alloc: Global, path: &str) -> Result<Vec<u8>, 
     }
 }
 
-/// Runs the script that stands in a file, over memory or over TCP.
+/// Runs the script in a file, over memory or over TCP.
 ///
 /// # Errors
 /// As `run_loop`; before that `Read` where the file can't be read or has more octets than a script may, and then `Net` where the listener
@@ -78,7 +78,7 @@ pub fn run_file<R: Files + Net, W: Write>(
     }
 }
 
-/// As [`run_file`], with what came of each move before the report, as [`trace_loop`] writes it.
+/// As [`run_file`], with the trace of the moves before the report, as [`trace_loop`] writes it.
 ///
 /// # Errors
 /// As `run_file`.

@@ -29,12 +29,13 @@ fn text_of(alloc: Global, report: &Report) -> Result<String, AllocError>
     Ok(text)
 }
 
-/// Runs a script over a wire, and writes what came of it: for each round `round N` and a line for each side, then the UPDATEs that weren't
-/// sent, then where both sides stand. The script has at most `SCRIPT_MAX` octets.
+/// Runs a script over a wire, and writes the outcome: for each round `round N` and a line for each side, then the
+/// UPDATEs that weren't sent, then the states of both sides. The script has at most `SCRIPT_MAX` octets.
 ///
 /// # Errors
-/// `Script` with the number of the lowest faulty line: the whole script is read before the first move, so nothing is written then. `Write`
-/// where a write fails or writes no octet: what was written before stands. `Memory` where an allocation failed: nothing is written then.
+/// `Script` with the number of the lowest faulty line: the whole script is read before the first move, so nothing is
+/// written then. `Write` where a write fails or writes no octet: what was written before remains. `Memory` where an
+/// allocation failed: nothing is written then.
 pub fn run_loop<W: Wire, O: Write>(
     alloc: Global,
     script: &[u8],

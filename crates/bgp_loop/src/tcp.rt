@@ -15,7 +15,7 @@ use std::time::Duration;
 /// How long an end waits for octets that were sent to it.
 const PATIENCE_SECONDS: u64 = 10;
 
-/// The octets that pass at once.
+/// The number of octets passed at once.
 const PIECE: usize = 4096;
 
 /// Both ends of one connection.
@@ -25,8 +25,8 @@ struct Ends<S: Drop> {
     b: S,
 }
 
-/// A wire over TCP on 127.0.0.1, whose ends are both in this process: it listens, connects and accepts. What doesn't come as it went hasn't
-/// passed.
+/// A wire over TCP on 127.0.0.1, whose ends are both in this process: it listens, connects and accepts. Octets that
+/// don't arrive unchanged count as not passed.
 #[derive(Drop)]
 pub struct TcpWire<'a, R: Net> {
     net: &'a R,
@@ -35,14 +35,14 @@ pub struct TcpWire<'a, R: Net> {
     failures: u32,
 }
 
-// An end sends what it is given at once, and doesn't wait for octets forever.
+// An end sends without delay, and waits for octets only for a limited time.
 fn set_up<S: OpenStream>(end: &S) -> io::Result<()> {
     end.set_nodelay(true)?;
     end.set_read_timeout(Some(Duration::from_secs(PATIENCE_SECONDS)))
 }
 
-// Sends octets from one end to the other, and puts what came in their place. Answers whether they came as they went: then they were appended
-// at the one end and consumed at the other.
+// Sends octets from one end to the other, and overwrites them with what arrived. Answers whether they arrived
+// unchanged: then they were appended at the one end and consumed at the other.
 fn carry<S: Read + Write>(from: &mut S, to: &mut S, octets: &mut [u8]) -> bool
     ensures { result ≡ true → IsCarried octets.old octets.new (S.contents from.old) (S.contents from.new) (S.remaining to.old) (S.remaining to.new) }
 {

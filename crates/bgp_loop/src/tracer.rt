@@ -1,4 +1,4 @@
-//! Writes down what comes of each move.
+//! Writes the trace of a run, move by move.
 
 ghost use Rattle.std.specs.Prelude.{◌≡◌, ◌+◌, ◌++◌, codes, length, OnOk};
 ghost use Rattle.std.specs.String.{string_bytes};
@@ -17,7 +17,7 @@ use bgp_update::UpdateView;
 use std::alloc::{AllocError, Global};
 use std::marker::Model;
 
-/// In which a message is judged before both agreed on anything: what `show` takes without flags.
+/// The context of a message before both agreed on anything: that of `show` without flags.
 const UNAGREED: Context = Context {
     internal: false,
     as4: false,
@@ -26,10 +26,10 @@ const UNAGREED: Context = Context {
     hold: 0,
 };
 
-/// What comes to a side.
+/// What a side receives.
 #[derive(Drop)]
 struct Coming {
-    /// The offset, in this direction of this connection, of the message that comes.
+    /// The offset, in this direction of this connection, of the message that arrives.
     place: u64,
     /// Its octets so far.
     octets: Vec<u8>,
@@ -61,14 +61,14 @@ impl Coming {
         self.octets.clear();
     }
 
-    // Octets come.
+    // Octets arrive.
     fn take(&mut self, octets: &[u8]) -> Result<(), AllocError>
         ensures { OnOk result (self.new ≡ with_octets self.old octets.now) }
     {
         self.octets.extend_from_slice(octets)
     }
 
-    // The message was heard.
+    // The message was received.
     fn pass(&mut self)
         ensures { self.new ≡ behind_message self.old }
     {
@@ -77,7 +77,7 @@ impl Coming {
     }
 }
 
-// The message that octets are, or the fault of their header, where they are just that.
+// The message in octets, or the fault of their header, where they are exactly that.
 fn whole(octets: &[u8]) -> Step<'_>
     ensures { ShowsWhole octets.now result }
 {
@@ -98,7 +98,7 @@ fn whole(octets: &[u8]) -> Step<'_>
     }
 }
 
-// Adds the name of a side, in front of a message.
+// Adds the name of a side, before a message.
 fn put_side(text: &mut String, side: Side) -> Result<(), AllocError>
     ensures { OnOk result (string_bytes text.new ≡ string_bytes text.old ++ (side_name side ++ codes " ")) }
 {
@@ -140,7 +140,7 @@ fn put_fault(
     put_viewed_outcome(alloc, text, place, 0, &OutcomeView::Reset(why.view()))
 }
 
-// Adds the lines of what came to a side.
+// Adds the lines of the message that a side received.
 fn put_message(
     alloc: Global,
     text: &mut String,
@@ -157,7 +157,7 @@ fn put_message(
     }
 }
 
-/// What is written so far, and what comes to each side.
+/// What is written so far, and what each side receives.
 #[derive(Drop)]
 pub(crate) struct Tracer {
     alloc: Global,
@@ -176,7 +176,7 @@ impl Model for Tracer {
 }
 
 impl Tracer {
-    /// Nothing is written, and nothing came.
+    /// Nothing is written, and nothing received.
     pub(crate) fn new(alloc: Global) -> Tracer
         ensures { result ≡ nothing_traced }
     {
@@ -207,7 +207,7 @@ impl Tracer {
         }
     }
 
-    // Writes the message that came to a side.
+    // Writes the message that a side received.
     fn hear(&mut self, side: Side, ctx: &Context) -> Result<(), AllocError>
         ensures { OnOk result (self.new ≡ message_heard side ctx.now self.old) }
     {

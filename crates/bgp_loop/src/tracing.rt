@@ -1,4 +1,4 @@
-//! Running a script, and writing down what comes of each move.
+//! Running a script, and writing the trace of its moves.
 
 ghost use Rattle.std.specs.Prelude.{◌≡◌, ◌≤◌, ◌++◌, length, IfOk};
 ghost use Rattle.std.specs.String.{string_bytes};
@@ -13,7 +13,7 @@ use bgp_session::{Report, Wire, observe_pair};
 use std::alloc::{AllocError, Global};
 use std::io::Write;
 
-// The text of what came of each move, and of the report behind it.
+// The text of the trace, and of the report after it.
 fn traced_text(tracer: Tracer, report: &Report) -> Result<String, AllocError>
     ensures { IfOk result (λ text. string_bytes text ≡ tracer.text ++ report_text report.now) }
 {
@@ -22,8 +22,9 @@ fn traced_text(tracer: Tracer, report: &Report) -> Result<String, AllocError>
     Ok(text)
 }
 
-/// As [`run_loop`](crate::run_loop), and before the report writes, move by move, what came of it: what came to each side, with the state of its session behind
-/// that and what the session wants done, and each message as `show` prints it, where the side hears it.
+/// As [`run_loop`](crate::run_loop), and before the report writes, move by move, its trace: what each side received,
+/// with the state of its session after that and what the session wants done, and each message as `show` prints it,
+/// where the side receives it.
 ///
 /// # Errors
 /// As `run_loop`.

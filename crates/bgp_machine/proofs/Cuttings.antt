@@ -1,11 +1,14 @@
--- A session is a hearer of octets: pulls, looks and feeds are ways to hear them, and events leave it at rest.
+-- A session is a receiver of octets: pulls, looks and feeds are ways to receive them, and events leave it at rest.
 use Rattle.bgp_machine.proofs.Prelude.{◌≡◌, ℕ, Bool, true, false, List, [], Option, Some, None, refl, sym, subst, Settings, Action, Event, IsAtRest, by_look}
 use Rattle.bgp_machine.proofs.Prelude.{by_pull, Machine, fresh, kept, after_event, hearer, Standing, listens, happens, IsFedAndJudged, IsHearer, IsWay}
 use Rattle.bgp_machine.proofs.Prelude.{not_both, waits_at, rests_ready, rests_empty, pull_is_way}
 use Rattle.bgp_frame.proofs.Hearings as hearings
+use Rattle.bgp_frame.specs.Kind.{plain}
+use Rattle.bgp_frame.specs.steps.AreTypes.{plain-are}
 
 pub is_hearer : IsHearer hearer
 is_hearer = record {
+  types = plain-are;
   held_so = λ x held. refl;
   held_same = λ x. refl;
   held_last = λ x a b. refl;
@@ -38,7 +41,7 @@ fresh_rests s = rests_empty hearer is_hearer (fresh s) refl
 kept_rests : (x : Machine) (next : Standing) (up : Bool) → listens next.state ≡ up → IsAtRest x → IsAtRest (record { settings = x.settings; standing = next; held = kept up x.held })
 kept_rests x next true is rest =
     rests_ready hearer is_hearer (record { settings = x.settings; standing = next; held = x.held })
-    (record { can_hold = rest.can_hold; holds_none = λ deaf. absurd (not_both (listens next.state) is deaf) }) (waits_at hearer is_hearer x rest.nothing_to_do)
+    (record { can_hold = rest.can_hold; holds_none = λ deaf. absurd (not_both plain plain-are (listens next.state) is deaf) }) (waits_at hearer is_hearer x rest.nothing_to_do)
 kept_rests x next false is rest = rests_empty hearer is_hearer (record { settings = x.settings; standing = next; held = [] }) refl
 
 pub event_rests : (x : Machine) (event : Event) → IsAtRest x → IsAtRest (after_event x event)

@@ -1,4 +1,4 @@
--- What is made of a message, state by state.
+-- The effect of a message, state by state.
 use Rattle.bgp_machine.proofs.Prelude.{◌≡◌, true, Option, Some, refl, sym, ap, subst, ◌∙◌, inr, Kind, Message, Context, Settings, verdict_of, has_value}
 use Rattle.bgp_machine.proofs.Prelude.{Heard, State, on_heard, suits, has_routes, SaysVerdict, IsSaid, Hears, Standing, listens, TakesMemory, on_message}
 

@@ -1,4 +1,4 @@
--- What is kept through a whole life: what the octets that were taken are, in each state.
+-- Invariants of a whole life: what the consumed octets are, in each state.
 use Rattle.bgp_machine.proofs.Prelude.{◌≡◌, ℕ, Bool, true, false, List, [], ◌∷◌, ◌++◌, take, Option, Some, None, Result, Ok, Err, option_map, refl, sym, ap}
 use Rattle.bgp_machine.proofs.Prelude.{subst, ap₂, ◌∙◌, append_assoc, arith, if◌then◌else◌, nil_from_length, HeadFault, Kind, Message, IsFrame, IsHeld}
 use Rattle.bgp_machine.proofs.Prelude.{content_of, CountsFed, done_by, Notification, Context, agreement, Settings, Said, said_by, open_notification}
@@ -17,6 +17,8 @@ use Rattle.bgp_update.specs.declared.verdict.Verdict.{Verdict}
 use Rattle.bgp_machine.specs.declared.timer.Timers.{Timers}
 use Rattle.bgp_machine.specs.Life.{Looked}
 use Rattle.bgp_machine.proofs.Cuttings.{is_hearer, looks_pull, pulls_as_fed}
+use Rattle.bgp_frame.specs.Kind.{plain}
+use Rattle.bgp_frame.specs.steps.AreTypes.{plain-are}
 
 -- the octets are an OPEN that was accepted and gave the context, and what is held
 record BeginsByOpen (s : Settings) (context : Option Context) (held octets : List ℕ) : Type 0 where
@@ -24,7 +26,7 @@ record BeginsByOpen (s : Settings) (context : Option Context) (held octets : Lis
   opened : IsAgreedOpen s context spelled
   in_order : octets ≡ spelled ++ held
 
--- what the octets are that were taken, in each state
+-- what the consumed octets are, in each state
 abbrev Stands : Settings → State → Option Context → List ℕ → List ℕ → Type 0
 Stands s State.OpenSent ctx held taken = taken ≡ held
 Stands s State.OpenConfirm ctx held taken = BeginsByOpen s ctx held taken
@@ -123,7 +125,7 @@ module _ (s : Settings) (ctx : Option Context) (peer : Option Said) (running : T
 
   no_body : (body : List ℕ) → IsFrame (record { kind = Kind.Keepalive; body = body }) held → body ≡ []
   no_body body frame =
-      let long = length-IsFrame (record { kind = Kind.Keepalive; body = body }) held frame in
+      let long = length-IsFrame plain plain-are (record { kind = Kind.Keepalive; body = body }) held frame in
       let most = frame.allowed.most in
       nil_from_length body (omega arith)
 
@@ -157,7 +159,7 @@ module _ (s : Settings) (ctx : Option Context) (peer : Option Said) (running : T
 
   hears_keeps : (st : State) (what : Result Message HeadFault) (taken : List ℕ) → IsHeld held → content_of held ≡ Some what
       → Stands s st ctx held taken → StandsEmptied taken (hears s (at st) what)
-  hears_keeps st (Ok m) taken is content h = message_keeps st m.kind m.body taken (content_of-message m held is content) h
+  hears_keeps st (Ok m) taken is content h = message_keeps st m.kind m.body taken (content_of-message plain plain-are m held is content) h
   hears_keeps State.Idle (Err f) taken is content h = refl
   hears_keeps State.Connect (Err f) taken is content h = refl
   hears_keeps State.Active (Err f) taken is content h = refl
@@ -167,7 +169,7 @@ module _ (s : Settings) (ctx : Option Context) (peer : Option Said) (running : T
 
 -- ---- calls
 
--- what is kept of a whole life
+-- the invariant of a whole life
 record Sound (s : Settings) (a : Life) : Type 0 where
   settings : a.session.settings ≡ s
   can_hold : IsHeld a.session.held
@@ -175,7 +177,7 @@ record Sound (s : Settings) (a : Life) : Type 0 where
 
 kept_held : (up : Bool) (held : List ℕ) → IsHeld held → IsHeld (kept up held)
 kept_held true held is = is
-kept_held false held is = IsHeld_nil
+kept_held false held is = IsHeld_nil plain plain-are
 
 told_keeps : (s : Settings) (a : Life) (e : Event) → Sound s a → Sound s (told a e)
 told_keeps s a e sound =
@@ -193,7 +195,7 @@ judged_keeps s a (Some what) sound is =
     let x = a.session.standing in
     record {
       settings = sound.settings;
-      can_hold = IsHeld_nil;
+      can_hold = IsHeld_nil plain plain-are;
       stands = subst (λ (t : Settings). Stands s (hears t x what).next.state (hears t x what).next.context [] a.taken) (sym sound.settings)
           (hears_keeps s x.context x.peer x.running a.session.held x.state what a.taken sound.can_hold is sound.stands);
     }
@@ -233,7 +235,7 @@ eats_keeps s a piece b sound eats =
       stands = fed_stands s x.state x.context a.session.held piece a.taken n eats.fed.0 sound.stands;
     })
 
--- a pull is a feed, with a step behind it where something is found
+-- a pull is a feed, with a step after it where something is found
 hears_keeps_life : (s : Settings) (a : Life) (piece : List ℕ) (n : ℕ) (found : Option (List Action)) (b : Life) → Sound s a → AreOctets piece
     → by_pull a.session piece n found b.session → b.taken ≡ a.taken ++ take n piece → Sound s b
 hears_keeps_life s a piece n None b sound octets call took =
@@ -262,6 +264,6 @@ lives_keep s a (call ∷ later) b sound lives = lives_keep s lives.0 later b (go
 pub established_behind : (s : Settings) (calls : List Call) (life : Life) → Lives (born s) calls life
     → life.session.standing.state ≡ State.Established → BeginsByOpenAndKeepalive s life.session.standing.context life.taken
 established_behind s calls life lives up =
-    let sound = lives_keep s (born s) calls life (record { settings = refl; can_hold = IsHeld_nil; stands = refl }) lives in
+    let sound = lives_keep s (born s) calls life (record { settings = refl; can_hold = IsHeld_nil plain plain-are; stands = refl }) lives in
     let x = life.session in
     subst (λ (st : State). Stands s st x.standing.context x.held life.taken) up sound.stands

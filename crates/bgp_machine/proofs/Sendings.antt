@@ -1,4 +1,4 @@
--- An UPDATE that may be sent is valid as it is told.
+-- An UPDATE that may be sent is valid in the form in which the peer receives it.
 use Rattle.bgp_machine.proofs.Prelude.{◌≡◌, Bool, true, false, Option, Some, None, refl, sym, ap, subst, Context, Update, HasNoAs4, narrowed_update, with_as4}
 use Rattle.bgp_machine.proofs.Prelude.{invalid_of, wide_update_has_no_as4, narrowed_update_is_valid, is_mixed, or_mixed, why_unsent}
 use Rattle.bgp_update.specs.declared.invalid.Invalid.{Invalid}

@@ -1,10 +1,12 @@
--- Steps behind a feed, until one gives nothing, do what one step does.
+-- Steps after a feed, until one gives nothing, do what one step does.
 use Rattle.bgp_machine.proofs.Prelude.{◌≡◌, ℕ, zero, suc, List, [], ◌∷◌, ◌++◌, drop, Option, Some, None, refl, sym, ap, subst, ◌∙◌, Action}
 use Rattle.bgp_machine.proofs.Prelude.{Machine, hearer, StepsUntilNone, by_steps, by_one_step, Calls, IsReady, Judges, Run, Runs, Way, IsWay, SomeCall}
 use Rattle.bgp_machine.proofs.Prelude.{content_stops, not_whole, judged_empty, empty_waits, feed_is_way, can_feed}
 use Rattle.std.proofs.lemmas.List.{append-nil}
 use Rattle.bgp_wire.specs.Prelude.{AreOctets}
 use Rattle.bgp_machine.proofs.Cuttings.{is_hearer}
+use Rattle.bgp_frame.specs.Kind.{plain}
+use Rattle.bgp_frame.specs.steps.AreTypes.{plain-are}
 
 -- of two steps the second gives nothing, since the first leaves nothing held
 pub one_gives : (n : ℕ) (x : Machine) (actions : List Action) (y : Machine) → StepsUntilNone (suc n) x actions y → Judges hearer x actions y
@@ -14,7 +16,7 @@ one_gives zero x actions y s =
 one_gives (suc n) x actions y s =
     let none : s.between.held ≡ [] = judged_empty hearer is_hearer x s.first s.between s.gives in
     let second = s.goes_on.gives in
-    absurd (not_whole s.between.held (empty_waits hearer is_hearer s.between none) (content_stops second.what s.between.held second.is_held))
+    absurd (not_whole plain plain-are s.between.held (empty_waits hearer is_hearer s.between none) (content_stops plain plain-are second.what s.between.held second.is_held))
 
 pub to_one : (x : Machine) (piece : List ℕ) (n : ℕ) (found : Option (List Action)) (y : Machine) → by_steps x piece n found y → by_one_step x piece n found y
 to_one x piece n None y s = (s.0, s.1.0)
@@ -26,7 +28,7 @@ from_one x piece n (Some actions) y s =
     let waits = empty_waits hearer is_hearer y (judged_empty hearer is_hearer _ actions y s.1) in
     (s.0, (0, record { first = actions; between = y; gives = s.1; rest = []; goes_on = ((waits, refl), refl); in_order = sym (append-nil actions) }))
 
--- ---- call behind call
+-- ---- call after call
 
 module _ (one other : Way Machine Action) (so : (x : Machine) (piece : List ℕ) (n : ℕ) (found : Option (List Action)) (y : Machine) → one x piece n found y → other x piece n found y) where
   calls_as : (calls : ℕ) (piece : List ℕ) (x : Machine) (actions : List Action) (y : Machine) → Calls one calls piece x actions y → Calls other calls piece x actions y
@@ -52,7 +54,7 @@ module _ (one other : Way Machine Action) (so : (x : Machine) (piece : List ℕ)
     in_order = r.in_order;
   }
 
--- ---- a way to hear
+-- ---- a way to receive
 
 pub steps_are_way : IsWay hearer is_hearer by_steps
 steps_are_way = record {

@@ -1,4 +1,4 @@
--- Each number of an UPDATE is within its field where each number is of what a speaker with AS numbers of two octets is told of it.
+-- Each number of an UPDATE is within its field where each number of its form for a speaker with 2-octet AS numbers is.
 use Rattle.bgp_machine.proofs.Prelude.{◌≡◌, ℕ, Bool, true, false, cond, List, [], ◌∷◌, Option, Some, None, subst, refl, sym, arith, list_any, AllByRecursion}
 use Rattle.bgp_machine.proofs.Prelude.{ltb-false, or_parts, option_map, Update, narrow_aggregator, wide_path, wide_aggregator, narrowed, narrowed_update}
 use Rattle.bgp_machine.proofs.Prelude.{HasNoAs4, present, slot, canonical_order, attr_list, HasUpdateRanges, by_narrowed, same-slot}
@@ -35,7 +35,7 @@ segments_small (s ∷ ss) none =
 abbrev pub AllFit : List Attr → Type 0
 AllFit xs = AllByRecursion HasRanges xs
 
--- a path that needs four octets is told as it is
+-- a path that needs four octets is sent unchanged
 path_by : (p : AsPath) (t : Bool) → any_number is_above_two_octets p ≡ t → AllFit (present (λ (w : As4Path). Attr.As4Path w) (cond t (Some (record { partial = false; path = p })) None)) → HasPathRanges p
 path_by p true is all = all.0
 path_by p false is all = segments_small p.segments is

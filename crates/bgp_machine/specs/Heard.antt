@@ -1,4 +1,4 @@
--- What a session makes of what it hears, as views of it.
+-- What a session makes of what it receives, as views of it.
 use Rattle.std.specs.Prelude.{◌≡◌, Bool, true, false, [], ◌∷◌, Option, None, Some, Ok, Err}
 use Rattle.bgp_frame.specs.declared.fault.HeadFault.{HeadFault}
 use Rattle.bgp_frame.specs.Prelude.{Message, notification_of_view, short_value}
@@ -16,7 +16,7 @@ use Rattle.bgp_machine.specs.Session.{TakesMemory}
 use Rattle.bgp_machine.specs.Standing.{Standing, listens}
 use Rattle.bgp_machine.specs.Table.{Step, accepted, go, hears, hold_on, leave, reset}
 
--- what is done on it
+-- what is done on receiving it
 abbrev pub on_heard : Standing → Heard → Step
 on_heard x (Heard.Open v ctx) = accepted x (said_by (open_value v)) ctx
 on_heard x Heard.Keepalive = go x (hold_on x.context) Established
@@ -26,7 +26,7 @@ on_heard x (Heard.Notification n) = leave x (Close ∷ [])
 on_heard x (Heard.Reset n) = reset x (notification_of_view n)
 on_heard x (Heard.Refused n) = reset x (short_value n)
 
--- in which state it can be heard
+-- in which state it can be received
 abbrev pub suits : State → Heard → Bool
 suits OpenSent (Heard.Open v ctx) = true
 suits OpenConfirm Heard.Keepalive = true
@@ -61,7 +61,7 @@ IsSaid s x m (Heard.Notification n) = (m.kind ≡ kind.Notification) × (notific
 IsSaid s x m (Heard.Reset n) = Unit {0}
 IsSaid s x m (Heard.Refused n) = Unit {0}
 
--- what a session makes of a message that it hears
+-- what a session makes of a message that it receives
 pub record Hears (s : Settings) (x : Standing) (m : Message) (h : Heard) : Type 0 where
   pub up : listens x.state ≡ true
   pub does : on_heard x h ≡ hears s x (Ok m)

@@ -1,4 +1,4 @@
--- One session of BGP-4: where it stands, what each event and each message does, and what follows for whole lives.
+-- One session of BGP-4: its state, what each event and each message does, and what follows for whole lives.
 pub mod ActionView
 pub mod Cutting
 pub mod Heard

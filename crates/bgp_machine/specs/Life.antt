@@ -13,7 +13,7 @@ use Rattle.bgp_machine.specs.Cutting.{settled}
 use Rattle.bgp_machine.specs.Run.{by_look, by_pull}
 use Rattle.bgp_machine.specs.Session.{Machine, fresh, after_event, IsFed}
 
--- what a session is called for: an event, octets to be fed, a step, a pull from a piece, or a look at one with what goes on behind it
+-- a call of a session: an event, octets to be fed, a step, a pull from a piece, or a look at one and the call that continues after it
 pub data Call : Type 0 where
   Told : (event : Event) → Call
   Fed : (piece : List ℕ) → Call
@@ -21,7 +21,7 @@ pub data Call : Type 0 where
   Pulled : (piece : List ℕ) → Call
   Looked : (piece : List ℕ) → Call
 
--- a session, and the octets that it has taken since its connection stands
+-- a session, and the octets that it has consumed since its connection is up
 pub record Life : Type 0 where
   pub session : Machine
   pub taken : List ℕ
@@ -39,7 +39,7 @@ abbrev pub taken_behind : Bool → List ℕ → List ℕ
 taken_behind true taken = []
 taken_behind false taken = taken
 
--- the life behind an event, and behind a step
+-- the life after an event, and after a step
 abbrev pub told : Life → Event → Life
 told a event = record {
   session = after_event a.session event;
@@ -49,14 +49,14 @@ told a event = record {
 abbrev pub stepped : Life → Life
 stepped a = record { session = (settled a.session).session; taken = a.taken }
 
--- the life behind a piece of octets
+-- the life after a piece of octets
 pub record Eats (a : Life) (piece : List ℕ) (b : Life) : Type 0 where
   pub octets : AreOctets piece
   pub count : ℕ
   pub fed : IsFed a.session piece count b.session
   pub took : b.taken ≡ a.taken ++ take count piece
 
--- the life behind a piece that is heard
+-- the life after a piece that is received
 pub record HearsSo (way : Way Machine Action) (a : Life) (piece : List ℕ) (b : Life) : Type 0 where
   pub octets : AreOctets piece
   pub count : ℕ
@@ -71,7 +71,7 @@ Goes a Stepped b = b ≡ stepped a
 Goes a (Pulled piece) b = HearsSo by_pull a piece b
 Goes a (Looked piece) b = HearsSo by_look a piece b
 
--- a life goes on by these calls
+-- a life continues by these calls
 abbrev pub Lives : Life → List Call → Life → Type 0
 Lives a [] b = b ≡ a
 Lives a (call ∷ later) b = (m : Life) × Goes a call m × Lives m later b

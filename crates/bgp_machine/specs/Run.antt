@@ -1,4 +1,4 @@
--- Pieces that a session hears, each call behind call until nothing more comes of it.
+-- Pieces that a session receives, each by call after call until one gives nothing more.
 use Rattle.std.specs.Prelude.{◌≡◌, ℕ, List, Option, None, Some}
 use Rattle.bgp_frame.specs.Hearing as hearing
 use Rattle.bgp_frame.specs.Prelude.{CanBeHeard}
@@ -15,7 +15,7 @@ pub record LooksAndFeeds (x : Machine) (piece : List ℕ) (n : ℕ) (y : Machine
   pub finds : IsLook x piece None
   pub feeds : IsFed x piece n y
 
--- a look finds something, and the session goes on behind it
+-- a look finds something, and the session continues after it
 pub record LooksAndGoes (x : Machine) (piece : List ℕ) (n : ℕ) (actions : List Action) (y : Machine) : Type 0 where
   pub looked : Looked
   pub finds : IsLook x piece (Some looked)
@@ -23,11 +23,11 @@ pub record LooksAndGoes (x : Machine) (piece : List ℕ) (n : ℕ) (actions : Li
   pub does : actions ≡ (step_of looked).actions
   pub goes : y ≡ gone x (step_of looked).next
 
--- by `look`, with `go` behind it, or `feed`
+-- by `look`, with `go` after it, or `feed`
 abbrev pub by_look : Machine → List ℕ → ℕ → Option (List Action) → Machine → Type 0
 by_look x piece n None y = LooksAndFeeds x piece n y
 by_look x piece n (Some actions) y = LooksAndGoes x piece n actions y
 
--- octets that come in these pieces can be pulled in some number of calls
+-- octets that arrive in these pieces can be pulled in some number of calls
 abbrev pub CanBePulled : Machine → List (List ℕ) → Type 0
 CanBePulled x pieces = CanBeHeard by_pull x pieces

@@ -1,4 +1,4 @@
--- What a session sends of its own routes, and what it refuses to send (RFC 4271, section 9.2; RFC 7606, section 5.1; RFC 6793, section 4.2.2).
+-- How a session sends its own routes, and what it refuses to send (RFC 4271, section 9.2; RFC 7606, section 5.1; RFC 6793, section 4.2.2).
 use Rattle.std.specs.Prelude.{◌≡◌, ◌⊎◌, ℕ, ◌+◌, ◌/◌, Bool, true, false, nat_lt, List, ◌++◌, length, Option, None, Some, is_some, if◌then◌else◌}
 use Rattle.bgp_open.specs.declared.context.Context.{Context}
 use Rattle.bgp_update.specs.declared.invalid.Invalid.{Invalid}
@@ -19,11 +19,11 @@ use Rattle.bgp_machine.specs.Table.{only_if}
 abbrev pub one_if : Bool → ℕ
 one_if there = if there then 1 else 0
 
--- routes of more than one kind: withdrawn, announced, and in each of the multiprotocol attributes
+-- the UPDATE has routes of more than one kind: withdrawn, announced, and in each of the multiprotocol attributes
 abbrev pub is_mixed : Update → Bool
 is_mixed u = nat_lt 1 (one_if (nat_lt 0 (length u.withdrawn)) + one_if (nat_lt 0 (length u.nlri)) + one_if (is_some u.attrs.mp_reach) + one_if (is_some u.attrs.mp_unreach))
 
--- that, of number 9, among the reasons for any message: the lowest number counts
+-- this reason, number 9, among the reasons for any message: the lowest number counts
 abbrev pub or_mixed : Bool → Option Invalid → Option Invalid
 or_mixed false why = why
 or_mixed true None = Some Invalid.Mixed
@@ -31,13 +31,13 @@ or_mixed true (Some Invalid.AsZero) = Some Invalid.Mixed
 or_mixed true (Some Invalid.Twice) = Some Invalid.Mixed
 or_mixed true (Some why) = Some why
 
--- routes are given with AS numbers of four octets, whatever the session has
+-- the caller gives routes with 4-octet AS numbers, whatever the session uses
 abbrev pub why_unsent : Context → Update → Option Invalid
 why_unsent ctx u = or_mixed (is_mixed u) (invalid_of (with_as4 true ctx) u)
 
 -- ---- what is sent
 
--- a speaker with AS numbers of two octets is told narrowed attributes
+-- a speaker with 2-octet AS numbers is sent narrowed attributes
 abbrev pub told_with : Bool → Update → Update
 told_with true u = u
 told_with false u = narrowed_update u
@@ -67,9 +67,9 @@ refusal_at _ ctx u = Some SendFault.NotEstablished
 abbrev pub refusal_of : Machine → Update → Option SendFault
 refusal_of x u = refusal_at x.standing.state x.standing.context u
 
--- ---- the answers
+-- ---- the results
 
--- the Keepalive Timer begins anew, where there is one
+-- the Keepalive Timer is restarted, where there is one
 abbrev pub keepalive_on : Context → List Action
 keepalive_on ctx = only_if (nat_lt 0 ctx.hold) (Arm timer.Keepalive (ctx.hold / 3))
 
@@ -81,7 +81,7 @@ pub record IsSent (x : Machine) (u : Update) (actions : List Action) (before aft
   pub does : actions ≡ keepalive_on context
   pub appends : after ≡ before ++ told_octets context u
 
--- memory can lack where nothing refuses it; on a session with AS numbers of two octets also where it is too long, as that is known once it is narrowed
+-- an allocation can fail where nothing refuses the UPDATE; with 2-octet AS numbers also where it is too long, as that is known once it is narrowed
 pub record LacksMemory (x : Machine) (u : Update) : Type 0 where
   pub context : Context
   pub agreed : x.standing.context ≡ Some context

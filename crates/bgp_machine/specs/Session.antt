@@ -1,9 +1,10 @@
 -- What a session holds, and what each event and each octet does (RFC 4271, sections 4.1 and 8.2.2).
 use Rattle.std.specs.Prelude.{◌≡◌, ◌⊎◌, ℕ, Bool, true, false, List, [], Option, None, Some, option_map, Ok}
 use Rattle.arrayvec.specs.ArrayVec.{ArrayVec}
+use Rattle.bgp_frame.specs.declared.kind.Kind.{Kind}
 use Rattle.bgp_frame.specs.declared.kind.Kind.TheVariants as kind
 use Rattle.bgp_frame.specs.declared.notification.Notification.{Notification}
-use Rattle.bgp_frame.specs.Prelude.{content_of, Message, octets_of, Hearer}
+use Rattle.bgp_frame.specs.Prelude.{content_of, Message, octets_of, Hearer, plain}
 use Rattle.bgp_frame.specs.Hearing as hearing
 use Rattle.bgp_open.specs.declared.context.Context.{Context}
 use Rattle.bgp_open.specs.Prelude.{Settings, open_fault, own_of}
@@ -16,7 +17,7 @@ use Rattle.bgp_machine.specs.declared.state.State.TheVariants as state
 use Rattle.bgp_machine.specs.Standing.{Standing, idle, listens}
 use Rattle.bgp_machine.specs.Table.{Step, happens, hears}
 
--- what the speaker is set to, where the session stands, and the octets that are held
+-- the speaker's settings, the state of the session, and the held octets
 pub record Machine : Type 0 where
   pub settings : Settings
   pub standing : Standing
@@ -43,7 +44,7 @@ notification_octets why = octets_of (record { kind = kind.Notification; body = m
 
 -- ---- events
 
--- what is held is kept while the connection stands
+-- what is held is kept while the connection is up
 abbrev pub kept : Bool → List ℕ → List ℕ
 kept true held = held
 kept false held = []
@@ -57,13 +58,14 @@ after_event x event = record {
 
 -- ---- octets
 
--- what is held is taken out with what is done on it
+-- what is held is removed as it is acted on
 abbrev pub after_step : Machine → Step → Machine
 after_step x step = record { settings = x.settings; standing = step.next; held = [] }
 
--- a session takes octets while the connection stands, and does what the state table says
-abbrev pub hearer : Hearer Machine Step Action
+-- a session accepts octets while the connection is up, and does what the state table says
+abbrev pub hearer : Hearer Kind Machine Step Action
 hearer = record {
+  types = plain;
   held = λ x. x.held;
   holding = holding;
   listens = λ x. listens x.standing.state;
@@ -79,11 +81,11 @@ IsFed old piece n new = hearing.IsFed hearer old piece n new
 abbrev pub judged : Machine → Option Step
 judged x = hearing.judged hearer x
 
--- nothing is done where what is held waits for more
+-- nothing is done where what is held is incomplete
 abbrev pub IsJudged : Machine → Option (ArrayVec Action) → Machine → Type 0
 IsJudged old found new = hearing.IsJudged hearer old (option_map (λ actions. actions.items) found) new
 
--- what can ask for memory: an OPEN without fault in OpenSent, or an UPDATE that doesn't end the session in Established
+-- what can need an allocation: an OPEN without fault in OpenSent, or an UPDATE that doesn't end the session in Established
 pub record OpenTakesMemory (x : Standing) (m : Message) : Type 0 where
   pub in_open_sent : x.state ≡ state.OpenSent
   pub is_open : m.kind ≡ kind.Open
@@ -104,7 +106,7 @@ pub record HeldTakesMemory (old : Machine) : Type 0 where
   pub is_held : content_of old.held ≡ Some (Ok message)
   pub takes : TakesMemory old.standing message
 
--- where a session goes on behind a look: the whole session as it was looked at, and how it stands behind that
+-- where a session continues after a look: the whole session as it was at the look, and its state after it
 pub record Going : Type 0 where
   pub from : Machine
   pub standing : Standing

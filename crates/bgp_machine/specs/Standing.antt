@@ -1,4 +1,4 @@
--- Where a session stands (RFC 4271, section 8).
+-- The state of a session (RFC 4271, section 8).
 use Rattle.std.specs.Prelude.{ℕ, Bool, true, false, Option, None, Some}
 use Rattle.bgp_open.specs.declared.context.Context.{Context}
 use Rattle.bgp_open.specs.Prelude.{Said, said_of}
@@ -23,7 +23,7 @@ timers_with Timer.Retry on t = record { retry = on; hold = t.hold; keepalive = t
 timers_with Timer.Hold on t = record { retry = t.retry; hold = on; keepalive = t.keepalive }
 timers_with Timer.Keepalive on t = record { retry = t.retry; hold = t.hold; keepalive = on }
 
--- ---- the state, what both agreed on and what the peer said of itself, and the timers that run
+-- ---- the state, what both agreed on and what the peer's OPEN says, and the timers that run
 
 pub record Standing : Type 0 where
   pub state : State
@@ -35,7 +35,7 @@ pub record Standing : Type 0 where
 abbrev pub idle : Standing
 idle = record { state = State.Idle; context = None; peer = None; running = no_timers }
 
--- a session with what its peer said of itself, and what both agreed on
+-- a session with what its peer's OPEN says, and what both agreed on
 abbrev pub agreed : Standing → Said → Context → Standing
 agreed x peer ctx = record { state = x.state; context = Some ctx; peer = Some peer; running = x.running }
 
@@ -43,7 +43,7 @@ agreed x peer ctx = record { state = x.state; context = Some ctx; peer = Some pe
 abbrev pub expired : Standing → Timer → Standing
 expired x timer = record { state = x.state; context = x.context; peer = x.peer; running = timers_with timer false x.running }
 
--- octets are taken once the connection stands
+-- octets are accepted once the connection is up
 abbrev pub listens : State → Bool
 listens State.OpenSent = true
 listens State.OpenConfirm = true

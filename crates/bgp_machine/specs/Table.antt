@@ -1,4 +1,4 @@
--- The state table: what is done on each event and each message in each state, and the state behind it (RFC 4271, section 8.2.2).
+-- The state table: what is done on each event and each message in each state, and the state after it (RFC 4271, section 8.2.2).
 -- What isn't listed does nothing.
 use Rattle.std.specs.Prelude.{ℕ, ◌/◌, Bool, true, false, nat_lt, List, [], ◌∷◌, ◌++◌, Option, None, Some, Result, Ok, Err, if◌then◌else◌}
 use Rattle.bgp_numbers.specs.declared.error.TheConstants.{OPEN_MESSAGE, HOLD_TIMER_EXPIRED, FINITE_STATE_MACHINE, CEASE, UNSPECIFIC, UNEXPECTED_IN_OPEN_SENT, UNEXPECTED_IN_OPEN_CONFIRM, UNEXPECTED_IN_ESTABLISHED}
@@ -24,17 +24,17 @@ use Rattle.bgp_machine.specs.declared.timer.TheConstants.{RETRY_SECONDS, OPEN_HO
 use Rattle.bgp_machine.specs.declared.timer.Timers.{Timers}
 use Rattle.bgp_machine.specs.Standing.{runs, timers_with, Standing, idle, agreed, expired, hold_in}
 
--- what is done, and the session behind it
+-- what is done, and the session after it
 pub record Step : Type 0 where
   pub actions : List Action
   pub next : Standing
 
--- ---- words of the table
+-- ---- terms of the table
 
 abbrev pub nothing : Standing → Step
 nothing x = record { actions = []; next = x }
 
--- the timers run that are armed, until they are disarmed
+-- a timer runs from when it is armed until it is disarmed
 abbrev pub timers_behind : List Action → Timers → Timers
 timers_behind [] t = t
 timers_behind (Arm timer seconds ∷ later) t = timers_behind later (timers_with timer true t)
@@ -60,18 +60,18 @@ abbrev pub flushed : State → List Action
 flushed Established = Flush ∷ []
 flushed _ = []
 
--- behind these actions the session leaves: no timer runs any more, its routes are gone, and there is no context
+-- after these actions the session leaves the connection: no timer runs any more, its routes are flushed, and there is no context
 abbrev pub leave : Standing → List Action → Step
 leave x first = record { actions = first ++ (disarmed x.running ++ flushed x.state); next = idle }
 
--- it tells the peer why, closes and leaves
+-- it sends the peer a NOTIFICATION, closes and leaves
 abbrev pub reset : Standing → Notification → Step
 reset x why = leave x (SendNotification why ∷ Close ∷ [])
 
 abbrev pub error : ℕ → ℕ → List ℕ → Notification
 error code subcode info = record { code = code; subcode = subcode; info = record { items = info } }
 
--- a message of a type that doesn't belong in the state: the type is told (RFC 6608, section 3)
+-- a message of a type that doesn't belong in the state: the data is its type (RFC 6608, section 3)
 abbrev pub unexpected : ℕ → Kind → Notification
 unexpected subcode kind = error FINITE_STATE_MACHINE subcode (code_of kind ∷ [])
 
@@ -81,7 +81,7 @@ held_too_long = error HOLD_TIMER_EXPIRED UNSPECIFIC []
 abbrev pub cease : Notification
 cease = error CEASE UNSPECIFIC []
 
--- the Hold Timer begins anew, where there is one
+-- the Hold Timer is restarted, where there is one
 abbrev pub hold_on : Option Context → List Action
 hold_on ctx = only_if (nat_lt 0 (hold_in ctx)) (Arm Hold (hold_in ctx))
 
@@ -120,7 +120,7 @@ happens x event = on_event x x.state event
 
 -- ---- messages: the type is tested against the state first, and then the body judged
 
--- a peer is accepted, and the session goes on with what both agreed on
+-- a peer is accepted, and the session continues with what both agreed on
 abbrev pub accepted : Standing → Said → Context → Step
 accepted x peer ctx =
     go (agreed x peer ctx)
@@ -131,7 +131,7 @@ abbrev pub on_agreement : Standing → Said → Result Context PeerFault → Ste
 on_agreement x peer (Ok ctx) = accepted x peer ctx
 on_agreement x peer (Err fault) = reset x (peer_notification fault)
 
--- the answer to a fault of an OPEN: only a refused growth has none, which is no fault of a body
+-- the answer to a fault of an OPEN: only a failed allocation has none, which isn't a fault of a body
 abbrev pub answered : Standing → Option Notification → Step
 answered x (Some why) = reset x why
 answered x None = reset x (error OPEN_MESSAGE UNSPECIFIC [])
@@ -173,7 +173,7 @@ on_fault x OpenConfirm fault = reset x (head_notification fault)
 on_fault x Established fault = reset x (head_notification fault)
 on_fault x _ fault = nothing x
 
--- what is heard: a message, or a header with a fault
+-- what is received: a message, or a header with a fault
 abbrev pub hears : Settings → Standing → Result Message HeadFault → Step
 hears s x (Ok m) = on_message s x x.state m.kind m.body
 hears s x (Err fault) = on_fault x x.state fault

@@ -1,4 +1,4 @@
-//! What is done on what is heard.
+//! What is done on what is received.
 
 ghost use Rattle.std.specs.Prelude.{◌≡◌, ◌<◌, ◌++◌, [], ◌∷◌, length, true, false, Some};
 ghost use Rattle.bgp_open.specs.Prelude.{said_of};
@@ -16,7 +16,7 @@ use crate::timer::Timer;
 use bgp_open::{Context, Peer};
 
 impl Standing {
-    /// The Hold Timer begins anew, where there is one.
+    /// Restarts the Hold Timer, where there is one.
     fn hold_on(&mut self, actions: &mut ActionViews<'_>)
         requires { length actions.old < 5 }
         ensures actions { actions.new ≡ actions.old ++ hold_on self.old.context }
@@ -31,7 +31,7 @@ impl Standing {
         }
     }
 
-    /// Goes on with a peer that is accepted.
+    /// Continues with a peer that is accepted.
     fn accept(&mut self, peer: Peer, context: Context, actions: &mut ActionViews<'_>)
         requires none { actions.old ≡ [] }
         requires sent { self.old.state ≡ state.OpenSent }
@@ -53,7 +53,7 @@ impl Standing {
         self.phase = Phase::OpenConfirm(context, peer);
     }
 
-    /// A KEEPALIVE of a peer that is accepted.
+    /// Receives the KEEPALIVE of a peer that is accepted.
     fn keep_alive(&mut self, actions: &mut ActionViews<'_>)
         requires none { actions.old ≡ [] }
         requires suits { suits self.old.state heard.Keepalive ≡ true }
@@ -76,8 +76,8 @@ impl Standing {
         self.leave(actions);
     }
 
-    /// Does what is to be done on what leaves the session where it stands: on an UPDATE that doesn't end it, or a KEEPALIVE, while the Hold Timer runs.
-    /// Answers whether that was heard, as it mostly is; nothing is done on anything else.
+    /// Acts on what leaves the state unchanged: an UPDATE that doesn't end the session, or a KEEPALIVE, while the Hold
+    /// Timer runs. Answers true if it was one of these (the common case); does nothing on anything else.
     #[inline(always)]
     pub(crate) fn stays<'a>(&self, heard: &'a Heard<'a>, actions: &mut ActionViews<'a>) -> bool
         requires { actions.old ≡ [] }
@@ -101,7 +101,7 @@ impl Standing {
         true
     }
 
-    /// Does what is to be done on what was heard.
+    /// Acts on what was received.
     pub(crate) fn act<'a>(&mut self, heard: &'a Heard<'a>, actions: &mut ActionViews<'a>)
         requires none { actions.old ≡ [] }
         requires suits { suits self.old.state heard.now ≡ true }

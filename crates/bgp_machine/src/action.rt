@@ -8,12 +8,12 @@ use bgp_frame::Notification;
 use bgp_update::{PathInfo, Routes, Update};
 use std::alloc::{AllocError, Global};
 
-/// What the one who runs a session has to do.
+/// What the owner of a session has to do.
 #[derive(Drop, PartialEq)]
 pub enum Action {
     /// Seek a connection to the peer.
     Connect,
-    /// Close the connection, or give up the one that is sought.
+    /// Close the connection, or abandon the attempt.
     Close,
     /// Send the session's own OPEN: its octets are `Session::own_frame`.
     SendOpen,
@@ -21,16 +21,16 @@ pub enum Action {
     SendKeepalive,
     /// Send this NOTIFICATION.
     SendNotification(Notification),
-    /// Start the timer, or start it anew, with this many seconds.
+    /// Start or restart the timer, with this number of seconds.
     Arm(Timer, u16),
     /// Stop the timer.
     Disarm(Timer),
-    /// The peer announces and withdraws routes: the UPDATE without the attributes that aren't passed on, and beside it the path and the
-    /// aggregator in AS numbers of four octets.
+    /// The peer announces and withdraws routes: the UPDATE without the attributes that aren't passed on, with the path
+    /// and the aggregator in 4-octet AS numbers.
     Announce(Update, PathInfo),
     /// The peer's message is treated as a withdrawal of its routes (RFC 7606, section 2).
     Withdraw(Routes),
-    /// All routes of the peer are gone with the session.
+    /// The session has ended, and all routes of the peer with it.
     Flush,
 }
 
@@ -49,7 +49,7 @@ impl Default for Action {
 }
 
 impl Action {
-    /// An equal action, with memory of its own.
+    /// An equal action, owned.
     ///
     /// # Errors
     /// `AllocError` where an allocation failed.

@@ -1,15 +1,15 @@
-//! What a session wants done, while what it concerns lies in octets.
+//! What a session wants done, as views of the octets that it concerns.
 
 use crate::timer::Timer;
 use bgp_frame::NotificationView;
 use bgp_update::UpdateView;
 
-/// What the one who runs a session has to do: an [`Action`](crate::Action) in some words, without memory.
+/// What the owner of a session has to do: an [`Action`](crate::Action) in a few words, without memory.
 #[derive(Clone, Copy)]
 pub enum ActionView<'a> {
     /// Seek a connection to the peer.
     Connect,
-    /// Close the connection, or give up the one that is sought.
+    /// Close the connection, or abandon the attempt.
     Close,
     /// Send the session's own OPEN: its octets are `Session::own_frame`.
     SendOpen,
@@ -17,16 +17,16 @@ pub enum ActionView<'a> {
     SendKeepalive,
     /// Send this NOTIFICATION.
     SendNotification(NotificationView<'a>),
-    /// Start the timer, or start it anew, with this many seconds.
+    /// Start or restart the timer, with this number of seconds.
     Arm(Timer, u16),
     /// Stop the timer.
     Disarm(Timer),
-    /// The peer announces and withdraws routes. The UPDATE is as it came: which of its attributes aren't passed on, `onward` says; the path in AS
-    /// numbers of four octets, and the aggregator, `UpdateView::path_info` gives without memory.
+    /// The peer announces and withdraws routes. The UPDATE is as received: `onward` says which of its attributes aren't
+    /// passed on; `UpdateView::path_info` gives the path in 4-octet AS numbers and the aggregator, without memory.
     Announce(&'a UpdateView<'a>),
     /// The peer's message is treated as a withdrawal of its routes (RFC 7606, section 2).
     Withdraw(&'a UpdateView<'a>),
-    /// All routes of the peer are gone with the session.
+    /// The session has ended, and all routes of the peer with it.
     Flush,
 }
 

@@ -13,7 +13,7 @@ use bgp_update::{PathInfo, Update, UpdateView, onward, reconcile};
 use std::alloc::{AllocError, Global};
 use std::marker::Model;
 
-/// What is to be done, in order: at most five things, in some words each and without memory.
+/// What is to be done, in order: at most five things, each a few words, without memory.
 #[derive(Drop)]
 pub struct ActionViews<'a> {
     list: ArrayVec<ActionView<'a>, 5>,
@@ -29,10 +29,11 @@ impl<'a> Model for ActionViews<'a> {
     ghost view = { λ v. map action_of v.list.items };
 }
 
-// An `Action` has room for a NOTIFICATION of 4 KB, and a function clears the room of each that it makes as it is entered. So what most messages ask
-// for is written into the action that stood there before, where that was of the same kind, and else made in functions of their own.
+// An `Action` has room for a NOTIFICATION of 4 KB, and a function clears the room of each that it makes as it is
+// entered. So what most messages need is written over the previous action, where that was of the same kind, and else
+// made in functions of their own.
 
-/// Puts an action where another was. It is inlined, so that the action is made where it is to stand.
+/// Overwrites an action. It is inlined, so that the new one is made in place.
 #[inline(always)]
 fn set(action: Action, place: &mut Action)
     ensures { place.new ≡ action }
@@ -40,7 +41,7 @@ fn set(action: Action, place: &mut Action)
     *place = action;
 }
 
-/// Puts a timer that is to be started where another action was.
+/// Overwrites an action with a timer to start.
 #[inline(never)]
 fn set_arm(timer: Timer, seconds: u16, place: &mut Action)
     ensures { place.new ≡ Arm timer seconds }
@@ -48,7 +49,7 @@ fn set_arm(timer: Timer, seconds: u16, place: &mut Action)
     set(Action::Arm(timer, seconds), place);
 }
 
-/// Puts a timer that is to be started into a place.
+/// Writes a timer to start into `place`.
 #[inline(always)]
 fn fill_arm(timer: Timer, seconds: u16, place: &mut Action)
     ensures { place.new ≡ Arm timer seconds }
@@ -62,7 +63,7 @@ fn fill_arm(timer: Timer, seconds: u16, place: &mut Action)
     }
 }
 
-/// Puts an announcement where another action was.
+/// Overwrites an action with an announcement.
 #[inline(never)]
 fn set_announce(update: Update, info: PathInfo, place: &mut Action)
     ensures { place.new ≡ Announce update info }
@@ -70,7 +71,7 @@ fn set_announce(update: Update, info: PathInfo, place: &mut Action)
     set(Action::Announce(update, info), place);
 }
 
-/// Puts an announcement into a place.
+/// Writes an announcement into `place`.
 #[inline(always)]
 fn put_announce(update: Update, info: PathInfo, place: &mut Action)
     ensures { place.new ≡ Announce update info }
@@ -84,7 +85,7 @@ fn put_announce(update: Update, info: PathInfo, place: &mut Action)
     }
 }
 
-/// Puts routes that the peer announces into a place.
+/// Writes routes that the peer announces into `place`.
 #[inline(never)]
 fn fill_announce(alloc: Global, view: &UpdateView<'_>, place: &mut Action) -> Result<(), AllocError>
     ensures { OnOk result (place.new ≡ Announce (onward_of (update_value view.now)) (rebuilt (update_value view.now).attrs)) }
@@ -95,7 +96,7 @@ fn fill_announce(alloc: Global, view: &UpdateView<'_>, place: &mut Action) -> Re
     Ok(())
 }
 
-/// Puts routes that are withdrawn into a place.
+/// Writes withdrawn routes into `place`.
 #[inline(never)]
 fn fill_withdraw(alloc: Global, view: &UpdateView<'_>, place: &mut Action) -> Result<(), AllocError>
     ensures { OnOk result (place.new ≡ Withdraw (routes_value view.now)) }
@@ -104,7 +105,7 @@ fn fill_withdraw(alloc: Global, view: &UpdateView<'_>, place: &mut Action) -> Re
     Ok(())
 }
 
-/// The action, where it asks for no memory.
+/// The action, where it needs no allocation.
 #[inline(always)]
 fn plain(action: &ActionView<'_>) -> Action
     requires { takes_memory (action_of action.now) ≡ false }
@@ -118,12 +119,12 @@ fn plain(action: &ActionView<'_>) -> Action
         ActionView::Arm(timer, seconds) => Action::Arm(*timer, *seconds),
         ActionView::Disarm(timer) => Action::Disarm(*timer),
         ActionView::Flush => Action::Flush,
-        // Neither an announcement nor a withdrawal asks for no memory.
+        // Never an announcement or a withdrawal: both need an allocation.
         ActionView::Close | ActionView::Announce(_) | ActionView::Withdraw(_) => Action::Close,
     }
 }
 
-/// Puts an action that asks for no memory where another was.
+/// Overwrites an action with one that needs no allocation.
 #[inline(never)]
 fn set_plain(action: &ActionView<'_>, place: &mut Action)
     requires { takes_memory (action_of action.now) ≡ false }
@@ -132,7 +133,7 @@ fn set_plain(action: &ActionView<'_>, place: &mut Action)
     set(plain(action), place);
 }
 
-/// Puts an action that asks for no memory into a place: most messages start a timer.
+/// Writes an action that needs no allocation into `place`: most messages start a timer.
 #[inline(always)]
 fn fill_plain(action: &ActionView<'_>, place: &mut Action)
     requires { takes_memory (action_of action.now) ≡ false }
@@ -144,7 +145,7 @@ fn fill_plain(action: &ActionView<'_>, place: &mut Action)
     }
 }
 
-/// Puts an action into a place, with memory of its own.
+/// Writes an action into `place`, owned.
 #[inline(always)]
 fn fill(alloc: Global, action: &ActionView<'_>, place: &mut Action) -> Result<(), AllocError>
     ensures ok { OnOk result (place.new ≡ action_of action.now) }
@@ -169,7 +170,7 @@ fn make_room(actions: &mut Actions)
     actions.push(Action::Close);
 }
 
-/// Puts an action at a place of a set, with memory of its own: over the one that stands there, or behind the last.
+/// Writes an action at an index of a set, owned: over the one that is there, or after the last.
 #[inline(always)]
 fn put(
     alloc: Global,
@@ -204,14 +205,14 @@ impl<'a> ActionViews<'a> {
         }
     }
 
-    /// Nothing is to be done any more.
+    /// Empties the list.
     pub(crate) fn clear(&mut self)
         ensures { self.new ≡ [] }
     {
         self.list.clear();
     }
 
-    /// This too is to be done.
+    /// Appends an action.
     pub(crate) fn push(&mut self, action: ActionView<'a>)
         requires { length self.old < 5 }
         ensures { self.new ≡ self.old ++ action_of action.entry ∷ [] }
@@ -226,7 +227,7 @@ impl<'a> ActionViews<'a> {
         &self.list
     }
 
-    /// Puts the actions into a set, each with memory of its own; what was in it before is gone.
+    /// Writes the actions into a set, each owned, over its former contents.
     ///
     /// # Errors
     /// `AllocError` where an allocation failed: only for an announcement or a withdrawal. The set is empty then.
@@ -245,7 +246,7 @@ impl<'a> ActionViews<'a> {
         Ok(())
     }
 
-    /// Puts actions that ask for no memory into an empty set.
+    /// Writes actions that need no allocation into an empty set.
     pub(crate) fn own_plain(&self, actions: &mut Actions)
         requires none { actions.old.items ≡ [] }
         requires plain { list_any takes_memory self.now ≡ false }

@@ -1,4 +1,4 @@
-//! What happens to a session, beside the octets that come.
+//! What happens to a session, besides the octets that it receives.
 
 use crate::timer::Timer;
 
@@ -9,9 +9,9 @@ pub enum Event {
     Start,
     /// The operator ends it (events 2 and 8: ManualStop, AutomaticStop).
     Stop,
-    /// The connection stands (events 16 and 17: Tcp_CR_Acked, TcpConnectionConfirmed).
+    /// The connection is up (events 16 and 17: Tcp_CR_Acked, TcpConnectionConfirmed).
     Connected,
-    /// The connection, or the try for one, failed (event 18: TcpConnectionFails).
+    /// The connection, or the attempt at one, failed (event 18: TcpConnectionFails).
     Failed,
     /// A timer has expired (events 9, 10 and 11). One that doesn't run does nothing.
     Expired(Timer),

@@ -51,7 +51,7 @@ impl Standing {
         }
     }
 
-    /// The connection stands: the OPEN is sent.
+    /// The connection is up: the OPEN is sent.
     fn connected(&mut self, actions: &mut ActionViews<'_>)
         requires { actions.old ≡ [] }
         ensures actions { actions.new ≡ (happens self.old event.Connected).actions }
@@ -72,7 +72,7 @@ impl Standing {
         }
     }
 
-    /// The connection failed, or is gone.
+    /// The connection failed, or was closed.
     fn failed(&mut self, actions: &mut ActionViews<'_>)
         requires { actions.old ≡ [] }
         ensures actions { actions.new ≡ (happens self.old event.Failed).actions }
@@ -93,7 +93,7 @@ impl Standing {
         }
     }
 
-    /// The owner stops the session: the peer is told, where there is one.
+    /// The owner stops the session: the peer gets a NOTIFICATION, where there is one.
     fn stopped(&mut self, actions: &mut ActionViews<'_>)
         requires { actions.old ≡ [] }
         ensures actions { actions.new ≡ (happens self.old event.Stop).actions }
@@ -109,7 +109,7 @@ impl Standing {
         }
     }
 
-    /// A connection is tried again, where none stands.
+    /// A connection is tried again, where none is up.
     fn retry_expired(&mut self, actions: &mut ActionViews<'_>)
         requires { actions.old ≡ [] }
         ensures actions { actions.new ≡ (on_event self.old self.old.state (event.Expired Timer.Retry)).actions }
@@ -126,7 +126,7 @@ impl Standing {
         self.timers = self.timers.with(Timer::Retry, true);
     }
 
-    /// The peer was silent for too long, where a connection stands.
+    /// The peer was silent for too long, where a connection is up.
     fn hold_expired(&mut self, actions: &mut ActionViews<'_>)
         requires { actions.old ≡ [] }
         ensures actions { actions.new ≡ (on_event self.old self.old.state (event.Expired Timer.Hold)).actions }
@@ -138,7 +138,7 @@ impl Standing {
         }
     }
 
-    /// The peer has to hear something, where it is accepted.
+    /// A KEEPALIVE is due, where the peer is accepted.
     fn keepalive_expired(&mut self, actions: &mut ActionViews<'_>)
         requires { actions.old ≡ [] }
         ensures actions { actions.new ≡ (on_event self.old self.old.state (event.Expired Timer.Keepalive)).actions }

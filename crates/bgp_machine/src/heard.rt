@@ -1,11 +1,11 @@
-//! What a session hears.
+//! What a session receives.
 
 use bgp_frame::{NotificationView, ShortNotification};
 use bgp_open::{Context, OpenView};
 use bgp_update::UpdateView;
 
-/// A message, or a header with a fault, as a session hears it where the connection stands: some words that point into its octets.
-/// The view of an UPDATE stands in a place of the caller's.
+/// A message, or a header with a fault, as a session receives it once the connection is up: a few words that point into
+/// its octets. The view of an UPDATE is in the caller's buffer.
 #[derive(Clone, Copy)]
 pub enum Heard<'a> {
     /// The peer's OPEN, where it is accepted, and what both agree on.

@@ -1,4 +1,4 @@
-//! What is heard: a message's type is tested against the state before its body is judged.
+//! Message dispatch by state: a message's type is tested against the state before its body is judged.
 
 ghost use Rattle.std.specs.Prelude.{◌≡◌, ◌+◌, ◌≤◌, length, true, Some};
 ghost use Rattle.bgp_frame.specs.declared.kind.Kind.TheVariants as kind;
@@ -30,7 +30,7 @@ fn answer_to(fault: OpenFault) -> NotificationView<'static>
 {
     match fault.answer() {
         Some(why) => why,
-        // Only memory has none, and no view asks for memory.
+        // Only a failed allocation has none, and views don't allocate.
         None => NotificationView {
             code: error::OPEN_MESSAGE,
             subcode: error::UNSPECIFIC,
@@ -133,7 +133,7 @@ fn hear_in_established<'b, 'a>(
 }
 
 impl Standing {
-    /// What a whole message comes to: nothing before the connection stands. The view of an UPDATE goes into the place.
+    /// The effect of a whole message: none before the connection is up. The view of an UPDATE is written into `place`.
     #[inline(always)]
     pub(crate) fn hear<'b, 'a>(
         &self,
@@ -152,7 +152,7 @@ impl Standing {
         }
     }
 
-    /// What a header with a fault comes to: nothing before the connection stands.
+    /// The effect of a header with a fault: none before the connection is up.
     #[inline(never)]
     pub(crate) fn hear_fault<'a>(&self, fault: HeadFault) -> Option<Heard<'a>>
         ensures { IsFaultOf self.now fault result }

@@ -1,5 +1,5 @@
-//! One session of BGP-4: the state machine of a connection (RFC 4271, section 8), without IO and without a clock. Events and octets go
-//! in, and what is to be done comes out.
+//! One session of BGP-4: the state machine of a connection (RFC 4271, section 8), without IO and without a clock. It is
+//! given events and octets, and answers what is to be done.
 #![tactic(auto)]
 
 mod acting;

@@ -9,10 +9,11 @@ use std::alloc::{AllocError, Global};
 use std::marker::Model;
 use std::snapshot::Snapshot;
 
-/// Where a session goes on: what [`Session::go`] takes. It belongs to the session as it was at the look, and to one in the same state.
+/// Where a session continues: the argument of [`Session::go`]. It belongs to the session as it was at the look, and to
+/// one in the same state.
 #[derive(Drop)]
 pub struct Next {
-    /// None: it stands as it stood.
+    /// None: its state is unchanged.
     pub(crate) standing: Option<Standing>,
     origin: Snapshot<Session>,
 }
@@ -26,8 +27,8 @@ impl Model for Next {
     ghost view = { λ n. record { from = n.origin.value; standing = unwrap_or n.standing n.origin.value.standing } };
 }
 
-/// A message, or a header with a fault, as a session hears it; what is to be done on it, and where the session goes on. It takes no memory: it
-/// points into the piece, or into what the session holds.
+/// A message, or a header with a fault, as a session receives it; what is to be done on it, and where the session
+/// continues. It allocates nothing: it points into the piece, or into what the session holds.
 #[derive(Drop)]
 pub struct Look<'a> {
     taken: usize,
@@ -52,7 +53,7 @@ impl<'a> Look<'a> {
     ghost use Rattle.bgp_machine.specs.Heard.{has_routes, suits};
     ghost use Rattle.bgp_machine.specs.Look.{step_of};
 
-    /// What was heard.
+    /// A look at a session that found this.
     pub(crate) fn new(taken: usize, was: &'a Session, heard: Heard<'a>) -> Look<'a>
         requires { suits was.now.standing.state heard ≡ true }
         ensures { result ≡ record { taken = taken; was = was.now; heard = heard.entry } }
@@ -60,21 +61,21 @@ impl<'a> Look<'a> {
         Look { taken, was, heard }
     }
 
-    /// How many octets of the piece are taken: none where what is held was heard.
+    /// The number of octets of the piece consumed: none where what is held was received.
     pub fn taken(&self) -> usize
         ensures { result ≡ self.now.taken }
     {
         self.taken
     }
 
-    /// What is heard: who wants to know what the peer says reads it here.
+    /// What is received: the peer's message, for callers that want its content.
     pub fn heard(&self) -> &Heard<'a>
         ensures { result.now ≡ self.now.heard }
     {
         &self.heard
     }
 
-    /// What is to be done, in order: it goes into a list, and what was there before is gone. Answers where the session goes on.
+    /// Writes what is to be done, in order, into a list, over its former contents. Answers where the session continues.
     pub fn act(&'a self, actions: &mut ActionViews<'a>) -> Next
         ensures actions { actions.new ≡ (step_of self.now).actions }
         ensures from { result.from ≡ self.now.was }
@@ -90,7 +91,7 @@ impl<'a> Look<'a> {
         self.turn(actions)
     }
 
-    /// The same of what is rarer, in a function of its own: a call clears the room of all that it makes.
+    /// The slow path, in a function of its own: a call clears the room of all that it makes.
     #[inline(never)]
     fn turn(&'a self, actions: &mut ActionViews<'a>) -> Next
         requires { actions.old ≡ [] }
@@ -106,7 +107,8 @@ impl<'a> Look<'a> {
         }
     }
 
-    /// Puts what is to be done into a set, each action with memory of its own; what was in it before is gone. Answers where the session goes on.
+    /// Writes what is to be done into a set, each action owned, over its former contents. Answers where the session
+    /// continues.
     ///
     /// # Errors
     /// `AllocError` where an allocation failed: only for an UPDATE that doesn't end the session. The set is empty then.

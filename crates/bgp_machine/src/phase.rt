@@ -7,7 +7,7 @@ ghost use Rattle.bgp_machine.specs.Prelude.{state_in, context_in, peer_in};
 use crate::state::State;
 use bgp_open::{Context, Peer};
 
-/// The state of a session: where the peer is accepted, with what both agreed on and what it said of itself.
+/// The state of a session: where the peer is accepted, with what both agreed on and the parameters of its OPEN.
 #[derive(Clone, Copy)]
 pub(crate) enum Phase {
     Idle,
@@ -44,7 +44,7 @@ impl Phase {
         }
     }
 
-    /// What the peer said of itself.
+    /// The parameters of the peer's OPEN.
     pub(crate) fn peer(&self) -> Option<&Peer>
         ensures { option_map (λ peer. said_of peer.now) result ≡ peer_in self.now }
     {

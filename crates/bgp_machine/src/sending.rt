@@ -27,7 +27,7 @@ fn is_mixed(update: &Update) -> bool
     withdrawn + nlri + reach + unreach > 1
 }
 
-/// The reason of the lowest number why an UPDATE isn't sent.
+/// The lowest-numbered reason why an UPDATE isn't sent.
 fn why_unsent(context: &Context, update: &Update) -> Option<Invalid>
     ensures { result ≡ why_unsent context.now update.now }
 {
@@ -62,7 +62,7 @@ fn put(context: &Context, update: &Update, out: &mut Vec<u8>) -> Result<(), Send
     }
 }
 
-/// Appends an UPDATE that may be sent, as the peer is told it.
+/// Appends an UPDATE that may be sent, in the form for the peer.
 fn tell(
     alloc: Global,
     context: &Context,
@@ -86,13 +86,14 @@ fn tell(
 }
 
 impl Session {
-    /// Appends the UPDATE as the peer is to be sent it, and answers what is to be done: the Keepalive Timer begins anew. On a session with AS
-    /// numbers of two octets it is narrowed first (RFC 6793, section 4.2.2). The session stays as it is.
+    /// Appends the UPDATE as the peer is to be sent it, and answers what is to be done: the Keepalive Timer is
+    /// restarted. On a session with 2-octet AS numbers it is narrowed first (RFC 6793, section 4.2.2). The session is
+    /// unchanged.
     ///
     /// # Errors
-    /// `NotEstablished` where the session isn't; else `NotValid` for the first reason in the order of their numbers, by the rules of a session with
-    /// AS numbers of four octets; else `TooLong`; `Memory` where an allocation failed, on a session with AS numbers of two octets also in the
-    /// place of `TooLong`. Nothing is appended then.
+    /// `NotEstablished` where the session isn't; else `NotValid` for the first reason in the order of their numbers, by
+    /// the rules of a session with 4-octet AS numbers; else `TooLong`; `Memory` where an allocation failed, on a
+    /// session with 2-octet AS numbers also instead of `TooLong`. Nothing is appended then.
     pub fn send(
         &self,
         alloc: Global,

@@ -22,8 +22,8 @@ use bgp_open::{Config, Context, Peer, own_frame};
 use bgp_update::UpdateView;
 use std::marker::Model;
 
-/// One speaker's end of one connection (RFC 4271, section 8). It does no IO and knows no time: its owner tells it what happens and feeds it
-/// the octets that come, and does what it answers. It holds at most one message, of at most 4096 octets.
+/// One speaker's end of one connection (RFC 4271, section 8). It does no IO and knows no time: its owner passes it the
+/// events and the octets received, and does what it answers. It holds at most one message, of at most 4096 octets.
 #[derive(Drop)]
 pub struct Session {
     pub(crate) config: Config,
@@ -45,7 +45,7 @@ impl Model for Session {
 }
 
 impl Session {
-    /// A session in Idle, of a speaker with these settings.
+    /// A session in Idle, for a speaker with these settings.
     #[tactic(auto, unfolding(crate::specs::Session::own_octets))]
     pub fn new(config: Config) -> Session
         ensures { result ≡ fresh config }
@@ -58,14 +58,14 @@ impl Session {
         }
     }
 
-    /// Where the session stands.
+    /// The state of the session.
     pub fn state(&self) -> State
         ensures { result ≡ self.now.standing.state }
     {
         self.standing.phase.state()
     }
 
-    /// Where the session stands, whole.
+    /// The whole state: that of the FSM, and the timers.
     #[inline(always)]
     pub(crate) fn standing(&self) -> &Standing
         ensures { result.now ≡ self.now.standing }
@@ -73,14 +73,14 @@ impl Session {
         &self.standing
     }
 
-    /// What both agreed on: in OpenConfirm and in Established alone.
+    /// What both agreed on: only in OpenConfirm and in Established.
     pub fn context(&self) -> Option<&Context>
         ensures { option_map (λ ctx. ctx.now) result ≡ self.now.standing.context }
     {
         self.standing.phase.context()
     }
 
-    /// What the peer said of itself in the OPEN that was accepted: in OpenConfirm and in Established alone.
+    /// The parameters of the peer's accepted OPEN: only in OpenConfirm and in Established.
     pub fn peer(&self) -> Option<&Peer>
         ensures { option_map (λ peer. said_of peer.now) result ≡ self.now.standing.peer }
     {
@@ -94,18 +94,18 @@ impl Session {
         self.standing.timers.runs(timer)
     }
 
-    /// The octets of the speaker's own OPEN, header and body: what `Action::SendOpen` is to send.
+    /// The octets of the speaker's own OPEN, header and body: what `Action::SendOpen` asks to send.
     pub fn own_frame(&self) -> &[u8]
         ensures { result.now ≡ own_octets self.now.settings }
     {
         &self.own
     }
 
-    /// How many octets are held.
+    /// The number of octets held.
     pub fn held(&self) -> usize
         ensures value { result ≡ length self.now.held }
         ensures bound { result ≤ 4096 }
-        // Where what is held waits for more, nothing is left to do.
+        // Where what is held is incomplete, nothing is left to do.
         ensures rests { Waits self.now.held → IsAtRest self.now }
         ensures deaf { listens self.now.standing.state ≡ false → self.now.held ≡ [] }
     {
@@ -122,7 +122,7 @@ impl Session {
         actions
     }
 
-    /// The same, in some words.
+    /// The same, as views.
     pub fn event_view(&mut self, event: Event) -> ActionViews<'static>
         ensures actions { result ≡ (happens self.old.standing event).actions }
         ensures after { self.new ≡ after_event self.old event }
@@ -135,11 +135,11 @@ impl Session {
         actions
     }
 
-    /// Consumes octets of the piece until it ends, or a whole message or a header with a fault is held. Answers how many it consumed: none
-    /// before the connection stands.
+    /// Consumes octets of the piece until it ends, or a whole message or a header with a fault is held. Answers the
+    /// number consumed: none before the connection is up.
     pub fn feed(&mut self, piece: &[u8]) -> usize
         ensures fed { IsFed self.old piece.now result self.new }
-        // Where what is held waits for more, nothing is left to do.
+        // Where what is held is incomplete, nothing is left to do.
         ensures rests { Waits self.new.held → IsAtRest self.new }
         ensures deaf { listens self.new.standing.state ≡ false → self.new.held ≡ [] }
     {
@@ -150,10 +150,11 @@ impl Session {
         }
     }
 
-    /// What a pull from a piece would do, without memory and without a change: none where it would feed the piece. Who goes on behind it does what
-    /// it says, and calls [`go`](Session::go) with where it leads, before the octets of the piece that it takes are passed.
+    /// What a pull from a piece would do, without memory and without a change: none where it would feed the piece. To
+    /// continue after it, do what it says, and call [`go`](Session::go) with the state that it gives, before the octets
+    /// of the piece that it consumes are dropped.
     ///
-    /// The view of an UPDATE goes into a place, whatever was there before: start with [`UpdateView::empty`].
+    /// The view of an UPDATE is written into `place`, over whatever it held: start with [`UpdateView::empty`].
     #[inline(always)]
     pub fn look<'b, 'a>(
         &'a self,
@@ -175,7 +176,7 @@ impl Session {
         }
     }
 
-    /// Goes on behind a look: what is held is let go. The session has to be as it was at the look.
+    /// Continues after a look: what is held is dropped. The session has to be as it was at the look.
     pub fn go(&mut self, next: Next)
         requires { next.from ≡ self.old }
         ensures { self.new ≡ gone self.old next.standing }

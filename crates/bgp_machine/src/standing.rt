@@ -14,7 +14,7 @@ use bgp_frame::NotificationView;
 use bgp_open::Context;
 use std::marker::Model;
 
-/// Where a session stands: its state, and its timers.
+/// The state of a session, and its timers.
 #[derive(Drop)]
 pub(crate) struct Standing {
     pub(crate) phase: Phase,
@@ -54,7 +54,7 @@ impl Standing {
         }
     }
 
-    /// The same.
+    /// A copy.
     pub(crate) fn copy(&self) -> Standing
         ensures { result ≡ self.now }
     {
@@ -64,7 +64,7 @@ impl Standing {
         }
     }
 
-    /// Whether octets are taken: the connection stands.
+    /// Whether octets are accepted: the connection is up.
     pub(crate) fn listens(&self) -> bool
         ensures { result ≡ listens self.now.state }
     {
@@ -84,7 +84,7 @@ impl Standing {
         }
     }
 
-    /// Leaves the connection: what that takes stands behind what is to be done already.
+    /// Leaves the connection: appends what that requires to what is to be done already.
     pub(crate) fn leave(&mut self, actions: &mut ActionViews<'_>)
         requires { length actions.old ≤ 2 }
         ensures actions { actions.new ≡ (leave self.old actions.old).actions }
@@ -100,7 +100,7 @@ impl Standing {
         self.timers = Timers::none();
     }
 
-    /// Tells the peer why, closes and leaves.
+    /// Sends the peer a NOTIFICATION, closes and leaves.
     pub(crate) fn reset<'a>(&mut self, why: NotificationView<'a>, actions: &mut ActionViews<'a>)
         requires { actions.old ≡ [] }
         ensures actions { actions.new ≡ (reset self.old (notification_of_view why.entry)).actions }

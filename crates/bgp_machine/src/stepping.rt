@@ -1,4 +1,4 @@
-//! What a session does with the octets that it is fed.
+//! Acting on the octets that a session is fed.
 
 ghost use Rattle.std.specs.Prelude.{◌≡◌, ◌⊎◌, [], false, true, IfOk, OnOk, OnErr};
 ghost use Rattle.bgp_machine.specs.Prelude.{RestsUnless, RestsBehind, IsOwnLook, IsJudged, HeldTakesMemory, IsPulled, IsFedAndStepped, FrontTakesMemory, where_found};
@@ -11,7 +11,8 @@ use bgp_update::UpdateView;
 use std::alloc::{AllocError, Global};
 
 impl Session {
-    /// What is to be done on the message, or the header with a fault, that is held: it is let go with that. None where neither is held.
+    /// What is to be done on the message, or the header with a fault, that is held, which is dropped with that. None
+    /// where neither is held.
     ///
     /// # Errors
     /// `AllocError` where an allocation failed: only for an OPEN without fault in OpenSent, and for an UPDATE that doesn't end the session in
@@ -32,12 +33,13 @@ impl Session {
         Ok(Some(actions))
     }
 
-    /// What is to be done on what is held, or on the message or the faulty header that the piece begins with: it is judged where it stands,
-    /// and not copied. Answers first how many octets of the piece were consumed, and None where more octets are needed, and before the
-    /// connection stands.
+    /// What is to be done on what is held, or on the message or the faulty header that the piece begins with: it is
+    /// judged in the piece, and not copied. Answers first the number of octets of the piece consumed, and None where
+    /// more octets are needed, and before the connection is up.
     ///
-    /// What is held comes first, and then nothing of the piece is consumed. Where an incomplete message is held, or the piece has less than a
-    /// message, the piece is fed. Else one message of the piece is consumed: as many octets as its Length says, or the 19 of a faulty header.
+    /// What is held comes first, and then nothing of the piece is consumed. Where an incomplete message is held, or the
+    /// piece has less than a message, the piece is fed. Else one message of the piece is consumed: the octets that its
+    /// Length says, or the 19 of a faulty header.
     ///
     /// # Errors
     /// As `step`. Nothing of the piece is consumed then, and the call can be made again.
@@ -48,7 +50,8 @@ impl Session {
     ) -> Result<(usize, Option<Actions>), AllocError>
         ensures ok { IfOk result (λ r. IsPulled self.old piece.now r.0 r.1 self.new) }
         ensures as_fed { IfOk result (λ r. IsFedAndStepped self.old piece.now r.0 r.1 self.new) }
-        // So it is where a pull takes nothing and gives None, and where one gives None and what is held waits.
+        // So it is where a pull consumes nothing and gives None, and where one gives None and what is held is
+        // incomplete.
         ensures rests { IfOk result (λ r. RestsBehind r.0 r.1 self.new) }
         ensures err { OnErr result (self.new ≡ self.old) }
         ensures memory { OnErr result (HeldTakesMemory self.old ⊎ FrontTakesMemory self.old piece.now) }
@@ -60,10 +63,11 @@ impl Session {
         }
     }
 
-    /// As [`pull`](Session::pull), into a set of the caller's; what was in it before is gone. Answers first how many octets of the piece were
-    /// consumed, and then whether a message or a faulty header was judged: the set is empty where none was.
+    /// As [`pull`](Session::pull), into the caller's set, over its former contents. Answers first the number of octets
+    /// of the piece consumed, and then whether a message or a faulty header was judged: the set is empty where none
+    /// was.
     ///
-    /// A set of actions has room for 20 KB. Who pulls message after message into one set doesn't move that room for each.
+    /// A set of actions has room for 20 KB. Pulling message after message into one set doesn't move that room for each.
     ///
     /// # Errors
     /// As `step`. Nothing of the piece is consumed then, the set is empty, and the call can be made again.
@@ -89,8 +93,9 @@ impl Session {
         Ok((taken, true))
     }
 
-    /// What [`look`](Session::look) finds: what is to be done goes into a set, with memory of its own. Answers how many octets of the piece are
-    /// taken, and where the session goes on; none where the piece is to be fed, and nothing is to be done then.
+    /// What [`look`](Session::look) finds: what is to be done is written into a set, owned. Answers the number of
+    /// octets of the piece consumed, and where the session continues; none where the piece is to be fed, and nothing is
+    /// to be done then.
     fn own_look(
         &self,
         alloc: Global,

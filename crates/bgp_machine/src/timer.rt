@@ -1,20 +1,20 @@
 //! The timers of a session.
 
-/// The timers that the one who runs a session keeps for it (RFC 4271, section 10).
+/// The timers that the owner of a session keeps for it (RFC 4271, section 10).
 #[derive(Clone, Copy, Debug, PartialEq, Eq, Hash)]
 pub enum Timer {
     /// ConnectRetryTimer: a connection is tried again.
     Retry,
     /// HoldTimer: the peer has been silent for too long.
     Hold,
-    /// KeepaliveTimer: the peer has to hear something.
+    /// KeepaliveTimer: a KEEPALIVE is due.
     Keepalive,
 }
 
 /// How long a connection is tried, in seconds (RFC 4271, section 10: ConnectRetryTime).
 pub const RETRY_SECONDS: u16 = 120;
 
-/// The Hold Time in seconds until the peer's OPEN has come (RFC 4271, section 8.2.2: "a large value").
+/// The Hold Time in seconds until the peer's OPEN has arrived (RFC 4271, section 8.2.2: "a large value").
 pub const OPEN_HOLD_SECONDS: u16 = 240;
 
 /// Which timers run.
@@ -51,7 +51,7 @@ impl Timers {
         }
     }
 
-    /// The timers, of which one is started or stopped.
+    /// The timers, after one is started or stopped.
     pub(crate) fn with(self, timer: Timer, on: bool) -> Timers
         ensures { result ≡ timers_with timer on self }
     {

@@ -14,11 +14,13 @@ use Rattle.bgp_open.specs.declared.context.Context.{Context}
 use Rattle.bgp_msg.specs.declared.outcome.Outcome.{Outcome}
 use Rattle.bgp_msg.specs.Prelude.{is_reset, stream_rules, Decoding, fresh, holding, given_by, IsNext, IsLater, Stands, Decodes, end_behind}
 use Rattle.bgp_msg.proofs.Pulls.{one_out}
+use Rattle.bgp_frame.specs.Kind.{plain}
+use Rattle.bgp_frame.specs.steps.AreTypes.{plain-are}
 
 abbrev pub Outs : Type 0
 Outs = List (ℕ × Outcome)
 
--- ---- what comes of the octets that are held
+-- ---- the outcomes of the held octets
 
 module _ (old : Decoding) (octets : List ℕ) (n : ℕ) (before : Outs) (going : old.stopped ≡ false) where
   abbrev j : StreamRules Outcome
@@ -30,7 +32,7 @@ module _ (old : Decoding) (octets : List ℕ) (n : ℕ) (before : Outs) (going :
   abbrev behind : List ℕ → List ℕ
   behind more = drop n octets ++ more
 
-  -- what comes of the octets that are held and those behind them, comes of all
+  -- the outcomes of the held octets and those after them are the outcomes of all
   of_whole : (more : List ℕ) (os : Outs) (e : End) → Gives j (z.held ++ behind more) os e → Gives j (old.held ++ (octets ++ more)) os e
   of_whole more os e g =
       subst (λ (s : List ℕ). Gives j s os e)
@@ -48,16 +50,16 @@ module _ (old : Decoding) (octets : List ℕ) (n : ℕ) (before : Outs) (going :
       → (more : List ℕ) → Gives j (z.held ++ behind more) (given_by z what ∷ []) (end_behind (given_by z what).0)
   ends_by (Ok m) frame is more =
       let k = length (octets_of m) in
-      let long = length-octets_of m in
+      let long = length-octets_of plain plain-are m in
       subst (λ (e : End). Gives j (z.held ++ behind more) (outcome_of j m ∷ []) e) (sym (cond-false (eqb k 0) end.Head end.Reset (ne_eqb k 0 (λ (none : k ≡ 0). absurd (omega arith)))))
-      (gives_reset Outcome j m z.held (behind more) frame is)
+      (gives_reset plain plain-are Outcome j m z.held (behind more) frame is)
   ends_by (Err f) faulty is more =
-      gives_fault Outcome j (z.held ++ behind more) f (omega (arith, faulty.0, length-append z.held (behind more))) (head_of-append z.held (behind more) (omega (arith, faulty.0)) ∙ faulty.1)
+      gives_fault plain plain-are Outcome j (z.held ++ behind more) f (omega (arith, faulty.0, length-append z.held (behind more))) (head_of-append plain plain-are z.held (behind more) (omega (arith, faulty.0)) ∙ faulty.1)
 
-  -- or the stream goes on
+  -- or the stream continues
   goes_by : (what : Result Message HeadFault) → IsContent what z.held → is_reset (given_by z what).1 ≡ false
       → (more : List ℕ) (others : Outs) (e : End) → Gives j (behind more) others e → Gives j (z.held ++ behind more) (given_by z what ∷ others) e
-  goes_by (Ok m) frame on more others e g = gives_more Outcome j m z.held (behind more) others e frame on g
+  goes_by (Ok m) frame on more others e g = gives_more plain plain-are Outcome j m z.held (behind more) others e frame on g
   goes_by (Err f) faulty on more others e g = absurd cc
 
   module _ (k : ℕ) (o : Outcome) (outs : Outs) (new : Decoding) (next : IsNext z (Some (k, o)) new) (told : outs ≡ before ++ (k, o) ∷ []) where
@@ -81,7 +83,7 @@ module _ (old : Decoding) (octets : List ℕ) (n : ℕ) (before : Outs) (going :
     step_on is =
         let on = sym resets ∙ is in
         subst (λ (d : Decoding). Decodes old octets before outs (drop n octets) None d) (sym next.leaves) (record {
-          stands = (on, refl, nothing_waits);
+          stands = (on, refl, nothing_waits plain plain-are);
           fresh = (k, o) ∷ [];
           told = told;
           later = λ more others e g.
@@ -109,11 +111,11 @@ further old mid new octets rest rest1 before told outs ended first second =
           (first.later more (second.fresh ++ others) e (later more others e l));
     }
 
--- where the stream has ended, the rest is gone
+-- where the stream has ended, the rest is ignored
 pub over : (old new : Decoding) (octets rest : List ℕ) (before outs : Outs) (e : End) → Decodes old octets before outs rest (Some e) new → Decodes old octets before outs [] (Some e) new
 over old new octets rest before outs e d = record { stands = tt; fresh = d.fresh; told = d.told; later = d.later }
 
--- all octets of a piece were taken: more of them come
+-- all octets of a piece were consumed: more follow
 with_more : (old mid : Decoding) (octets piece : List ℕ) (before told : Outs) → Decodes old octets before told [] None mid → Decodes old (octets ++ piece) before told piece None mid
 with_more old mid octets piece before told first = record {
   stands = first.stands;
@@ -137,7 +139,7 @@ module _ {X : Type 0} (octets_of : X → List ℕ) (pieces : List X) (i : ℕ) w
   pieces_left : flat_map octets_of pieces ≡ flat_map octets_of (take i pieces) ++ flat_map octets_of (drop i pieces)
   pieces_left = ap (flat_map octets_of) (sym (take-append-drop i pieces)) ∙ flat_map-append octets_of (take i pieces) (drop i pieces)
 
--- one piece more
+-- one more piece
 pub one_more : (ctx : Context) (pieces : List (Bor (List ℕ))) (i : ℕ) (mid new : Decoding) (told outs : Outs) → i < length pieces → Decodes (fresh ctx) (flat_map octets_in (take i pieces)) [] told [] None mid
     → (d : Bor (List ℕ)) (r ended : Option End) → r ≡ ended → Decodes mid (octets_in (get_or pieces i d)) told outs [] r new → Decodes (fresh ctx) (flat_map octets_in (take (i + 1) pieces)) [] outs [] ended new
 one_more ctx pieces i mid new told outs lt first d r ended is more =
@@ -147,7 +149,7 @@ one_more ctx pieces i mid new told outs lt first d r ended is more =
     (subst (λ (s : List ℕ). Decodes (fresh ctx) s [] outs [] r new) (sym (one_piece octets_in pieces i d lt))
     (further (fresh ctx) mid new (front ++ piece) piece [] [] told outs r (with_more (fresh ctx) mid front piece [] told first) more))
 
--- all is told, whatever comes behind
+-- all outcomes are reported, whatever follows
 gives_all : (ctx : Context) (front more : List ℕ) (outs : Outs) (ended : Option End) (d : Decoding) (e : End) → Decodes (fresh ctx) front [] outs [] ended d → IsLater ctx ended (d.held ++ more) [] e
     → Gives (stream_rules ctx) (front ++ more) outs e
 gives_all ctx front more outs ended d e c l = subst (λ (os : Outs). Gives (stream_rules ctx) (front ++ more) os e) (append-nil c.fresh ∙ sym c.told) (c.later more [] e l)
@@ -162,4 +164,4 @@ pub waits_at_end : (ctx : Context) (stream : List ℕ) (outs : Outs) (d : Decodi
 waits_at_end ctx stream outs d c =
     let e = end.Wait (length d.held) in
     subst (λ (s : List ℕ). Gives (stream_rules ctx) s outs e) (append-nil stream)
-    (gives_all ctx stream [] outs None d e c (subst (λ (s : List ℕ). Gives (stream_rules ctx) s [] e) (sym (append-nil d.held)) (gives_wait Outcome (stream_rules ctx) d.held c.stands.2)))
+    (gives_all ctx stream [] outs None d e c (subst (λ (s : List ℕ). Gives (stream_rules ctx) s [] e) (sym (append-nil d.held)) (gives_wait plain plain-are Outcome (stream_rules ctx) d.held c.stands.2)))

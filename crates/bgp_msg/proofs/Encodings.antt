@@ -1,4 +1,4 @@
--- Bodies that are written are as long as their kind allows, and come to the message that was meant.
+-- Encoded bodies are as long as their kind allows, and decode to the message that was meant.
 use Rattle.bgp_wire.proofs.Std.{cond, ◌||◌, ◌≡◌, ℕ, ◌+◌, ◌≤◌, Bool, true, false, ltb, List, [], ◌∷◌, length, Option, Some, None, Result, Ok, Err, IsTrue, OnOk, IsErrOf, refl, sym, ap, arith, list_any, ltb-true, ltb-false, or_parts}
 use Rattle.std.specs.Prelude.{is_none}
 use Rattle.std.proofs.lemmas.Bool.{true≢false}
@@ -25,6 +25,8 @@ use Rattle.bgp_msg.specs.declared.message.Message.{Message}
 use Rattle.bgp_msg.specs.declared.outcome.Outcome.TheVariants.{Took}
 use Rattle.bgp_msg.specs.Prelude.{of_reading, written, invalid_open, is_valid, is_too_long}
 use Rattle.bgp_msg.specs.declared.message.Message.TheVariants as message
+use Rattle.bgp_frame.specs.Kind.{plain}
+use Rattle.bgp_frame.specs.steps.AreTypes.{plain-are}
 
 abbrev some_invalid : Invalid → Option Invalid
 some_invalid why = Some why
@@ -37,7 +39,7 @@ not_memory why e = absurd cc
 
 -- the body of a message that is too long has more than 4077 octets
 pub long_body : (ctx : Context) (m : Message) → IsTrue (is_too_long ctx m) → 4078 ≤ length (written ctx m).body
-long_body ctx m e = omega (arith, ltb-true _ _ e, length-octets_of (written ctx m))
+long_body ctx m e = omega (arith, ltb-true _ _ e, length-octets_of plain plain-are (written ctx m))
 
 -- ---- OPEN
 

@@ -1,4 +1,4 @@
--- A valid message that fits is taken as itself.
+-- A valid message that fits is accepted as itself.
 use Rattle.std.proofs.Common.{◌≡◌, ◌+◌, ◌≤◌, Bool, true, false, cond, length, Option, Some, None, refl, ap, arith}
 use Rattle.bgp_frame.specs.Prelude.{IsFrame, IsLength}
 use Rattle.bgp_frame.proofs.FrameLemmas.{length-octets_of}
@@ -15,6 +15,8 @@ use Rattle.bgp_msg.specs.declared.message.Message.{Message}
 use Rattle.bgp_msg.specs.Prelude.{of_verdict, kind_of, body_of, written, invalid_of, canonical, HasMessageRanges, IsTakenAsItself}
 use Rattle.bgp_msg.specs.declared.message.Message.TheVariants as message
 use Rattle.bgp_msg.proofs.Encodings.{open_taken}
+use Rattle.bgp_frame.specs.Kind.{plain}
+use Rattle.bgp_frame.specs.steps.AreTypes.{plain-are}
 
 abbrev some : Invalid → Option Invalid
 some why = Some why
@@ -24,15 +26,15 @@ good_by true e = absurd cc
 good_by false e = refl
 
 module _ (ctx : Context) where
-  -- a frame, by how long its body is
+  -- a frame, by the length of its body
   frame_of : (m : Message) → IsLength (kind_of m) (19 + length (body_of ctx m)) → IsFrame (written ctx m) (canonical ctx m)
   frame_of m allowed = record {
     octets = refl;
-    allowed = record { least = omega (arith, allowed.least, length-octets_of (written ctx m)); most = omega (arith, allowed.most, length-octets_of (written ctx m)) };
+    allowed = record { least = omega (arith, allowed.least, length-octets_of plain plain-are (written ctx m)); most = omega (arith, allowed.most, length-octets_of plain plain-are (written ctx m)) };
   }
 
   body_short : (m : Message) → length (canonical ctx m) ≤ 4096 → length (body_of ctx m) ≤ 4077
-  body_short m le = omega (arith, length-octets_of (written ctx m))
+  body_short m le = omega (arith, length-octets_of plain plain-are (written ctx m))
 
   pub valid-itself : (m : Message) → HasMessageRanges m → invalid_of ctx m ≡ None → length (canonical ctx m) ≤ 4096 → IsTakenAsItself ctx m
   valid-itself (message.Open o) ranges valid le =

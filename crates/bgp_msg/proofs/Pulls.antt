@@ -1,7 +1,7 @@
--- A decoder is a hearer of octets, and what it finds by a look is what a pull gives.
+-- A decoder is a receiver of octets, and a pull gives what a look finds.
 use Rattle.bgp_wire.proofs.Std.{◌≡◌, ℕ, ◌≤◌, ◌⊎◌, Bool, true, false, not, List, [], ◌∷◌, ◌++◌, length, take, Result, Ok, Err, OnErr, Option, Some, option_map, refl, sym, ap, ap₂, subst, ◌∙◌, arith, inl, inr, not-true}
 use Rattle.bgp_frame.specs.declared.fault.HeadFault.{HeadFault}
-use Rattle.bgp_frame.specs.declared.step.Frame.{Frame}
+use Rattle.bgp_frame.specs.Step.{Frame}
 use Rattle.bgp_frame.specs.Prelude.{Message, Waits, ShowsFront, IsToFeed, IsPull, IsContent, Judges}
 use Rattle.bgp_frame.specs.declared.pull.Pull.TheVariants as pull
 use Rattle.bgp_frame.specs.declared.step.Step.TheVariants as step
@@ -16,9 +16,12 @@ use Rattle.bgp_msg.specs.Prelude.{out_of, of_fault, has_lists, Decoding, TakesMe
 use Rattle.bgp_msg.specs.declared.outcome.Outcome.TheVariants as outcome
 use Rattle.bgp_frame.proofs.Hearings as hearings
 use Rattle.bgp_msg.proofs.Lists.{lists_have_kinds, lists_go_on}
+use Rattle.bgp_frame.specs.Kind.{plain}
+use Rattle.bgp_frame.specs.steps.AreTypes.{plain-are}
 
 pub is_hearer : hearings.IsHearer decoder
 is_hearer = record {
+  types = plain-are;
   held_so = λ d held. refl;
   held_same = λ d. refl;
   held_last = λ d a b. refl;
@@ -36,12 +39,12 @@ one_out d out new j = only out (given_by d j.what) j.does
     only : (a b : ℕ × Outcome) → a ∷ [] ≡ b ∷ [] → a ≡ b
     only a b same = cc
 
--- behind a reset nothing is held
+-- after a reset nothing is held
 pub stopped_waits : (held : List ℕ) → held ≡ [] → Waits held
-stopped_waits held none = subst Waits (sym none) nothing_waits
+stopped_waits held none = subst Waits (sym none) (nothing_waits plain plain-are)
 
 module _ (d : Decoding) (piece : List ℕ) where
-  -- ---- what a look finds, a pull gives
+  -- ---- a pull gives what a look finds
 
   pub stopped_feeds : d.stopped ≡ true → IsLook d piece look.Feed
   stopped_feeds over n new fed = hearings.to_feed decoder is_hearer d piece n new false (ap not over) (λ up. absurd cc) fed
@@ -75,13 +78,13 @@ module _ (d : Decoding) (piece : List ℕ) where
   given_takes_memory e (Ok m) is lists = record { message = m; is_held = is; holds_lists = lists_have_kinds e.ctx m lists; goes_on = lists_go_on (out_of e.ctx m) lists }
   given_takes_memory e (Err f) is lists = absurd cc
 
-  -- what is pulled takes memory only where it has lists
+  -- a pull of an outcome with lists can need an allocation
   pub pulled_takes_memory : (n k : ℕ) (o : Outcome) (new : Decoding) → has_lists o ≡ true → IsPulled d piece n (Some (k, o)) new → TakesMemory d ⊎ FrontTakesMemory d piece
   pulled_takes_memory n k o new lists p =
       let e = holding d (d.held ++ take n piece) in
       let out : o ≡ (given_by e p.next.what).1 = ap (λ (x : ℕ × Outcome). x.1) (one_out e (k, o) new p.next) in
       let takes = given_takes_memory e p.next.what p.next.is_held (ap has_lists (sym out) ∙ lists) in
-      elim (held_or_front d.held piece n (λ h. TakesMemory (holding d h)) p.pulls takes) [
+      elim (held_or_front plain plain-are d.held piece n (λ h. TakesMemory (holding d h)) p.pulls takes) [
         | inl held ↦ inl held.1
         | inr front ↦ inr (record { going = not-true d.stopped p.next.up; none_held = front.0; n = n; within = p.pulls.takes.within; takes = front.1 })
       ]
@@ -90,19 +93,19 @@ pub on_err_any : {T E P : Type 0} (r : Result T E) → P → OnErr r P
 on_err_any (Ok x) p = tt
 on_err_any (Err e) p = p
 
--- ---- what stands at the front of a piece
+-- ---- the first message of a piece
 
 pub whole_at_front : (old inside : Decoding) (piece : List ℕ) (frame : Frame) (n : ℕ) (o : Outcome) → inside ≡ old → inside.stopped ≡ false → n ≡ length inside.held → n ≤ 0
     → ShowsFront piece (step.Frame frame) → o ≡ out_of inside.ctx (record { kind = frame.kind; body = frame.body.now }) → IsAtFront old piece frame.len o
 whole_at_front old inside piece frame n o is going count none front comes =
     subst (λ (d : Decoding). IsAtFront d piece frame.len o) is
-    (none_held inside.held (omega (arith, count)), found_message inside piece frame.len frame o going (pull_frame piece inside.held n count none frame front) comes)
+    (none_held plain plain-are inside.held (omega (arith, count)), found_message inside piece frame.len frame o going (pull_frame plain plain-are piece inside.held n count none frame front) comes)
 
--- where nothing is held, it is the piece that asks for memory
+-- where nothing is held, only the piece can need an allocation
 pub front_takes_memory : (old : Decoding) (piece : List ℕ) (n : ℕ) (o : Outcome) → has_lists o ≡ true → IsAtFront old piece n o → FrontTakesMemory old piece
 front_takes_memory old piece n o lists f =
     elim (pulled_takes_memory old piece n n o (behind old o) lists f.1) [
-      | inl held ↦ absurd (let frame = held.is_held in let none = f.0 in omega (arith, length-IsFrame held.message old.held held.is_held, ap length f.0))
+      | inl held ↦ absurd (let frame = held.is_held in let none = f.0 in omega (arith, length-IsFrame plain plain-are held.message old.held held.is_held, ap length f.0))
       | inr front ↦ front
     ]
 

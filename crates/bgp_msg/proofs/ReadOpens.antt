@@ -1,4 +1,4 @@
--- An OPEN that was read can be written, in no more octets.
+-- An OPEN that was read can be written, and is no longer than what was read.
 use Rattle.bgp_wire.proofs.Std.{◌≡◌, ℕ, suc, ◌+◌, ◌≤◌, Bool, true, false, ◌||◌, cond, eqb, ltb, List, [], ◌∷◌, ◌++◌, length, Option, Some, refl, sym, ap, subst, ◌∙◌, arith, list_any, or_from, le-ltb, list_any-append}
 use Rattle.std.proofs.lemmas.Grind.{flat_map-append}
 use Rattle.std.proofs.lemmas.List.{length-append, length-drop}
@@ -13,7 +13,7 @@ use Rattle.bgp_open.proofs.Readings.{short-hold, zero-id}
 
 -- ---- one capability
 
--- it is written in as many octets, and under its own code
+-- it is written with the same length, and under its own code
 abbrev IsAlike : Capability → ℕ → Type 0
 IsAlike c n = (length (capability_octets c) ≡ suc (suc n)) × (is_misnamed c ≡ false)
 
@@ -55,7 +55,7 @@ row-alike (c ∷ caps) b row =
     let rest = row-alike caps row.1 row.4 in
     (omega (arith, length-append (capability_octets c) (row_octets caps), one_more.0, rest.0, ap length row.2, length-append row.0 row.1), or_from (is_misnamed c) (list_any is_misnamed caps) one_more.1 rest.1)
 
--- each parameter has two octets besides
+-- each parameter has a header of two octets
 record Fits (ps : List (List Capability)) (n : ℕ) : Type 0 where
   shorter : length (row_octets (joined ps)) + (length ps + length ps) ≤ n
   named : list_any is_misnamed (joined ps) ≡ false

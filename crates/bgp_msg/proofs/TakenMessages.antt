@@ -1,4 +1,4 @@
--- A message that was taken can be written, in no more octets.
+-- An accepted message can be written, and is no longer than what was read.
 use Rattle.bgp_wire.proofs.Std.{◌≡◌, ℕ, ◌+◌, ◌≤◌, Bool, cond, List, [], length, Option, Some, None, Result, Ok, Err, refl, sym, ap, subst, arith}
 use Rattle.std.proofs.lemmas.List.{length-drop}
 use Rattle.bgp_wire.specs.Prelude.{AreOctets}
@@ -27,6 +27,8 @@ use Rattle.bgp_msg.specs.Prelude.{of_open_fault, of_reading, of_verdict, notific
 use Rattle.bgp_msg.specs.declared.message.Message.TheVariants as message
 use Rattle.bgp_msg.specs.declared.outcome.Outcome.TheVariants as outcome
 use Rattle.bgp_msg.proofs.ReadOpens.{read-good, read-short}
+use Rattle.bgp_frame.specs.Kind.{plain}
+use Rattle.bgp_frame.specs.steps.AreTypes.{plain-are}
 
 abbrev taken : Message → List Note → Outcome
 taken m notes = outcome.Took m notes
@@ -40,7 +42,7 @@ not_reset r n others e = absurd cc
 module _ (ctx : Context) (b body : List ℕ) (long : length b ≡ 19 + length body) where
   -- from a body that is no longer
   can_be : (m : Message) → invalid_of ctx m ≡ None → length (body_of ctx m) ≤ length body → CanBeWritten ctx m b
-  can_be m valid le = record { valid = valid; no_longer = omega (arith, long, length-octets_of (written ctx m)) }
+  can_be m valid le = record { valid = valid; no_longer = omega (arith, long, length-octets_of plain plain-are (written ctx m)) }
 
   open_by : (said : Message) (notes : List Note) → AreOctets body → 10 ≤ length body → (r : Result Open OpenFault) → reading_of body ≡ r → of_reading r ≡ taken said notes → CanBeWritten ctx said b
   open_by said notes octets ten (Ok o) e is =
@@ -74,10 +76,10 @@ module _ (ctx : Context) (b body : List ℕ) (long : length b ≡ 19 + length bo
 
 pub taken-can : (ctx : Context) (m : frame.Message) (b : List ℕ) (said : Message) (notes : List Note) → AreOctets b → IsFrame m b → out_of ctx m ≡ outcome.Took said notes → CanBeWritten ctx said b
 taken-can ctx m b said notes octets f is =
-    body_by ctx b m.body (length-IsFrame m b f) m.kind f.allowed (AreOctets-back (header m.kind (19 + length m.body)) m.body (subst AreOctets f.octets octets)) said notes is
+    body_by ctx b m.body (length-IsFrame plain plain-are m b f) m.kind f.allowed (AreOctets-back (header m.kind (19 + length m.body)) m.body (subst AreOctets f.octets octets)) said notes is
 
--- the octets of the message needn't be there
+-- the octets of the message aren't needed
 pub taken-body : (ctx : Context) (m : frame.Message) (said : Message) (notes : List Note) → AreOctets m.body → IsLength m.kind (19 + length m.body) → out_of ctx m ≡ outcome.Took said notes
     → CanBeWritten ctx said (octets_of m)
 taken-body ctx m said notes octets allowed is =
-    body_by ctx (octets_of m) m.body (length-octets_of m) m.kind (subst (IsLength m.kind) (sym (length-octets_of m)) allowed) octets said notes is
+    body_by ctx (octets_of m) m.body (length-octets_of plain plain-are m) m.kind (subst (IsLength m.kind) (sym (length-octets_of plain plain-are m)) allowed) octets said notes is

@@ -1,7 +1,8 @@
 -- What a decoder holds, and what it gives.
 use Rattle.std.specs.Prelude.{◌≡◌, ◌≤◌, ◌⊎◌, ℕ, Bool, false, not, List, [], ◌∷◌, length, take, Option, option_map, Result, Ok, Err}
 use Rattle.bgp_frame.specs.declared.fault.HeadFault.{HeadFault}
-use Rattle.bgp_frame.specs.Prelude.{octets_of, IsFrame, Hearer}
+use Rattle.bgp_frame.specs.Prelude.{octets_of, IsFrame, Hearer, plain}
+use Rattle.bgp_frame.specs.declared.kind.Kind.{Kind}
 use Rattle.bgp_frame.specs.declared.kind.Kind.TheVariants as kind
 use Rattle.bgp_frame.specs.Frame as frame
 use Rattle.bgp_frame.specs.Hearing as hearing
@@ -9,7 +10,7 @@ use Rattle.bgp_open.specs.declared.context.Context.{Context}
 use Rattle.bgp_msg.specs.declared.outcome.Outcome.{Outcome}
 use Rattle.bgp_msg.specs.Outcome.{out_of, of_fault, is_reset}
 
--- the context, the octets that are held, and whether a reset was handed out
+-- the context, the held octets, and whether a reset was returned
 pub record Decoding : Type 0 where
   pub ctx : Context
   pub held : List ℕ
@@ -22,18 +23,19 @@ fresh ctx = record { ctx = ctx; held = []; stopped = false }
 abbrev pub holding : Decoding → List ℕ → Decoding
 holding old held = record { ctx = old.ctx; held = held; stopped = old.stopped }
 
--- behind an outcome nothing is held, and a reset is the last one
+-- after an outcome nothing is held, and a reset is the last one
 abbrev pub behind : Decoding → Outcome → Decoding
 behind old o = record { ctx = old.ctx; held = []; stopped = is_reset o }
 
--- what a message comes to, with its octets in number, and a header with a fault, with none
+-- the outcome of a message, with its length, and of a header with a fault, with length 0
 abbrev pub given_by : Decoding → Result frame.Message HeadFault → ℕ × Outcome
 given_by d (Ok m) = (length (octets_of m), out_of d.ctx m)
 given_by d (Err f) = (0, of_fault f)
 
--- a decoder takes octets until it gives a reset
-abbrev pub decoder : Hearer Decoding (ℕ × Outcome) (ℕ × Outcome)
+-- a decoder consumes octets until it gives a reset
+abbrev pub decoder : Hearer Kind Decoding (ℕ × Outcome) (ℕ × Outcome)
 decoder = record {
+  types = plain;
   held = λ d. d.held;
   holding = holding;
   listens = λ d. not d.stopped;
@@ -42,30 +44,30 @@ decoder = record {
   behind = λ d out. behind d out.1;
 }
 
--- it takes what a framer takes, and nothing where it is stopped
+-- it consumes what a framer consumes, and nothing where it is stopped
 abbrev pub IsFed : Decoding → List ℕ → ℕ → Decoding → Type 0
 IsFed old piece n new = hearing.IsFed decoder old piece n new
 
--- what a decoder gives next: nothing where what is held waits, else the outcome of what is held
+-- what a decoder gives next: nothing where the held message is incomplete, else its outcome
 abbrev pub IsNext : Decoding → Option (ℕ × Outcome) → Decoding → Type 0
 IsNext old found new = hearing.IsJudged decoder old (option_map (λ out. out ∷ []) found) new
 
--- what a decoder pulls from a piece: how many octets it takes, and what comes of them or of what was held
+-- what a decoder pulls from a piece: the number of octets it consumes, and the outcome of them or of what was held
 abbrev pub IsPulled : Decoding → List ℕ → ℕ → Option (ℕ × Outcome) → Decoding → Type 0
 IsPulled old piece n found new = hearing.IsPulled decoder old piece n (option_map (λ out. out ∷ []) found) new
 
--- what `feed` takes of the piece is taken, and then what comes is what `next` gives
+-- it consumes what `feed` consumes of the piece, and then gives what `next` gives
 abbrev pub IsFedAndNext : Decoding → List ℕ → ℕ → Option (ℕ × Outcome) → Decoding → Type 0
 IsFedAndNext old piece n found new = hearing.IsFedAndJudged decoder old piece n (option_map (λ out. out ∷ []) found) new
 
--- what can ask for memory: a message with routes or capabilities that is held, and doesn't end the session
+-- what can need an allocation: a message with routes or capabilities that is held, and doesn't end the session
 pub record TakesMemory (old : Decoding) : Type 0 where
   pub message : frame.Message
   pub is_held : IsFrame message old.held
   pub holds_lists : (message.kind ≡ kind.Open) ⊎ (message.kind ≡ kind.Update)
   pub goes_on : is_reset (out_of old.ctx message) ≡ false
 
--- what can ask for memory where nothing is held: such a message at the front of the piece
+-- what can need an allocation where nothing is held: such a message at the beginning of the piece
 pub record FrontTakesMemory (old : Decoding) (piece : List ℕ) : Type 0 where
   pub going : old.stopped ≡ false
   pub none_held : old.held ≡ []
@@ -73,11 +75,11 @@ pub record FrontTakesMemory (old : Decoding) (piece : List ℕ) : Type 0 where
   pub within : n ≤ length piece
   pub takes : TakesMemory (holding old (take n piece))
 
--- Where a decoder goes on behind a look: the whole decoder as it was looked at, and whether a reset was found, behind which it stops
+-- Where a decoder continues after a look: the whole decoder as it was at the look, and whether a reset was found, after which it stops
 pub record Going : Type 0 where
   pub from : Decoding
   pub resets : Bool
 
--- a decoder was looked at as it is, and this was found
+-- the look was at this decoder, and found this outcome
 abbrev pub IsBehind : Decoding → Outcome → Going → Type 0
 IsBehind d o next = (next.from ≡ d) × (next.resets ≡ is_reset o)

@@ -1,4 +1,4 @@
--- What the laws of messages say of one that was taken, and of one that was written.
+-- What the laws of messages claim of a message that was accepted, and of one that was written.
 use Rattle.std.specs.Prelude.{◌≡◌, ◌≤◌, ℕ, List, [], length, None}
 use Rattle.bgp_frame.specs.Prelude.{IsFrame}
 use Rattle.bgp_open.specs.declared.context.Context.{Context}
@@ -10,7 +10,7 @@ use Rattle.bgp_msg.specs.declared.outcome.Outcome.TheVariants.{Took}
 use Rattle.bgp_msg.specs.Outcome.{out_of}
 use Rattle.bgp_msg.specs.Written.{written, canonical, invalid_of}
 
--- the message can be written in the context, in no more octets than these
+-- the message can be written in the context, and is no longer than these octets
 pub record CanBeWritten (ctx : Context) (m : Message) (octets : List ℕ) : Type 0 where
   pub valid : invalid_of ctx m ≡ None
   pub no_longer : length (canonical ctx m) ≤ length octets
@@ -21,7 +21,7 @@ HasMessageRanges (message.Open o) = HasRanges o
 HasMessageRanges (message.Update u) = HasUpdateRanges u
 HasMessageRanges _ = Unit {0}
 
--- what is written is a whole message, which comes to the message itself, without notes
+-- what is written is a whole message, which decodes to the message itself, without notes
 pub record IsTakenAsItself (ctx : Context) (m : Message) : Type 0 where
   pub whole : IsFrame (written ctx m) (canonical ctx m)
   pub taken : out_of ctx (written ctx m) ≡ Took m []

@@ -1,4 +1,4 @@
--- Messages: what each comes to, how it is written, and streams of them.
+-- Messages: the outcome of each, how it is written, and streams of them.
 pub mod Outcome
 pub mod OutcomeView
 pub mod Written

@@ -1,4 +1,4 @@
--- What a borrowed outcome is.
+-- The value that a borrowed outcome represents.
 use Rattle.std.specs.Prelude.{Bool, true, false, []}
 use Rattle.bgp_frame.specs.Prelude.{notification_of_view}
 use Rattle.bgp_open.specs.Prelude.{open_value}
@@ -17,7 +17,7 @@ outcome_value view.Keepalive = outcome.Took message.Keepalive []
 outcome_value (view.Withdraw v) = outcome.Withdraw (routes_value v.now) (notes_value v.now)
 outcome_value (view.Reset n) = outcome.Reset (notification_of_view n)
 
--- its value needs memory of its own: an OPEN's capabilities, an UPDATE's routes, attributes and notes
+-- an owned value of it allocates: an OPEN's capabilities, an UPDATE's routes, attributes and notes
 abbrev pub has_lists : Outcome → Bool
 has_lists (outcome.Took (message.Open o) notes) = true
 has_lists (outcome.Took (message.Update u) notes) = true

@@ -52,6 +52,6 @@ invalid_of ctx _ = None
 abbrev pub is_valid : Context → Message → Bool
 is_valid ctx m = is_none (invalid_of ctx m)
 
--- it would have more than 4096 octets
+-- the message would have more than 4096 octets
 abbrev pub is_too_long : Context → Message → Bool
 is_too_long ctx m = nat_lt 4096 (length (canonical ctx m))

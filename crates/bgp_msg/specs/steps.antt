@@ -1,4 +1,4 @@
--- What only private functions cite: steps of proofs, which nobody has to believe.
+-- What only private functions cite: steps of proofs, which no reader has to trust.
 pub mod Room
 pub mod Early
 pub mod Decoding

@@ -1,4 +1,4 @@
-//! Messages of a stream that comes in pieces.
+//! The messages of a stream, however it is cut into pieces.
 
 ghost use Rattle.std.specs.Prelude.{◌≡◌, ◌<◌, ◌≤◌, ◌⊎◌, true, false, [], Some, length, IfOk, OnErr};
 ghost use Rattle.bgp_msg.specs.Decoder.{fresh, behind, IsFed, IsNext, TakesMemory, IsPulled, IsFedAndNext, FrontTakesMemory};
@@ -16,8 +16,8 @@ use bgp_update::UpdateView;
 use std::alloc::{AllocError, Global};
 use std::marker::Model;
 
-/// Reads the octets of a stream, in whatever pieces they come, and hands out the outcome of each message. It holds at most one
-/// message, of at most 4096 octets; behind a reset it holds and reads nothing.
+/// Reads the octets of a stream, however it is cut into pieces, and returns the outcome of each message. It holds at
+/// most one message, of at most 4096 octets; after a reset it holds and reads nothing.
 #[derive(Drop)]
 pub struct Decoder {
     ctx: Context,
@@ -37,7 +37,7 @@ impl Model for Decoder {
 }
 
 impl Decoder {
-    /// A decoder of the messages of a session in this context, at the beginning of a stream.
+    /// A decoder of the messages of a session in this context, at the start of a stream.
     pub fn new(ctx: Context) -> Decoder
         ensures { result ≡ fresh ctx }
     {
@@ -48,14 +48,14 @@ impl Decoder {
         }
     }
 
-    /// Whether a reset was handed out: nothing behind it is read.
+    /// Whether a reset was returned: nothing after it is read.
     pub fn stopped(&self) -> bool
         ensures { result ≡ self.now.stopped }
     {
         self.stopped
     }
 
-    /// How many octets are held.
+    /// The number of octets held.
     pub fn held(&self) -> usize
         ensures value { result ≡ length self.now.held }
         ensures bound { result ≤ 4096 }
@@ -70,8 +70,8 @@ impl Decoder {
         self.framer.octets()
     }
 
-    /// Consumes octets of the piece until it ends, or a whole message or a header with a fault is held. Answers how many it consumed: none
-    /// behind a reset.
+    /// Consumes octets of the piece until it ends, or a whole message or a header with a fault is held. Answers the
+    /// number consumed: none after a reset.
     pub fn feed(&mut self, piece: &[u8]) -> usize
         ensures { IsFed self.old piece.now result self.new }
     {
@@ -82,8 +82,8 @@ impl Decoder {
         }
     }
 
-    /// The outcome of the message or the header that is held, with the octets of the message, 0 for a header's fault. None where the message
-    /// is incomplete, and behind a reset.
+    /// The outcome of the message or the header that is held, with the length of the message, 0 for a header's fault.
+    /// None where the message is incomplete, and after a reset.
     ///
     /// # Errors
     /// `AllocError` where an allocation failed: only for an OPEN or an UPDATE that doesn't end the session. What is held stays then, and the
@@ -113,17 +113,17 @@ impl Decoder {
         }
     }
 
-    /// The outcome of what is held, or of the message or the faulty header that the piece begins with, with its octets in number: it is
-    /// judged where it stands, and not copied. Answers first how many octets of the piece were consumed, and None where more octets are
-    /// needed, and behind a reset.
+    /// The outcome of what is held, or of the message or the faulty header that the piece begins with, with its length:
+    /// it is judged in the piece, and not copied. Answers first the number of octets of the piece consumed, and None
+    /// where more octets are needed, and after a reset.
     ///
-    /// What is held comes first, and then nothing of the piece is consumed. Where an incomplete message is held, or the piece has less than a
-    /// message, the piece is fed. Else one message of the piece is consumed: as many octets as its Length says, or the 19 of a faulty header.
+    /// What is held comes first, and then nothing of the piece is consumed. Where an incomplete message is held, or the
+    /// piece has less than a message, the piece is fed. Else one message of the piece is consumed: the octets that its
+    /// Length says, or the 19 of a faulty header.
     ///
     /// # Errors
     /// `AllocError` where an allocation failed: only for an OPEN or an UPDATE that doesn't end the session. Nothing is consumed then, and
     /// the call can be made again.
-    #[tactic(auto, using(crate::proofs::Pulls::pulls_as_fed))]
     pub fn pull(
         &mut self,
         alloc: Global,
@@ -140,11 +140,11 @@ impl Decoder {
         self.pull_any(alloc, piece)
     }
 
-    /// What [`pull`](Decoder::pull) would give for a piece, as a view, without memory and without a change. Who goes on behind it consumes as many
-    /// octets of the piece as it says, and calls [`go`](Decoder::go) with where it goes on; where it gives `Feed`, who goes on calls
-    /// [`feed`](Decoder::feed).
+    /// What [`pull`](Decoder::pull) would give for a piece, as a view, without memory and without a change. To continue
+    /// after it, consume the octets of the piece that it says, and call [`go`](Decoder::go) with the state that it
+    /// returns; after `Feed`, call [`feed`](Decoder::feed).
     ///
-    /// The view of an UPDATE goes into a place, whatever was there before.
+    /// The view of an UPDATE is written into `place`, over whatever it held.
     #[tactic(auto, using(crate::proofs::Pulls::stopped_feeds, crate::proofs::Pulls::waiting_feeds, crate::proofs::Pulls::found_message, crate::proofs::Pulls::found_fault))]
     pub fn look<'b, 'a>(&'a self, piece: &'a [u8], place: &'b mut UpdateView<'a>) -> Look<'b>
         ensures { IsLook self.now piece.entry.now result }
@@ -164,8 +164,8 @@ impl Decoder {
         }
     }
 
-    /// Goes on behind a message or a faulty header that [`look`](Decoder::look) gave: nothing is held any more, and the decoder stops where that
-    /// was a reset, as each faulty header is. The decoder has to be as it was at the look.
+    /// Continues after a message or a faulty header that [`look`](Decoder::look) gave: nothing is held any more, and
+    /// the decoder stops where that was a reset, as each faulty header is. The decoder has to be as it was at the look.
     pub fn go(&mut self, next: Next)
         requires { next.from ≡ self.old }
         ensures { self.new ≡ gone self.old next.resets }
@@ -174,9 +174,9 @@ impl Decoder {
         self.stopped = next.resets();
     }
 
-    /// An UPDATE that is accepted at the front of a piece, where nothing is held, with memory of its own. None for anything else: an outcome has
-    /// room for 4 KB, which would be cleared and copied for each UPDATE. It isn't inlined, so that `pull` stays so small that the compiler
-    /// sees which of its room need not be cleared.
+    /// An UPDATE that is accepted at the beginning of a piece, where nothing is held, as an owned value. None for
+    /// anything else: an outcome has room for 4 KB, which would be cleared and copied for each UPDATE. It isn't
+    /// inlined, so that `pull` stays so small that the compiler sees which of its room need not be cleared.
     #[inline(never)]
     fn early(&self, alloc: Global, piece: &[u8]) -> Result<Option<Early>, AllocError>
         ensures ok { IfOk result (λ found. IsEarly self.now piece.now found) }
@@ -198,7 +198,8 @@ impl Decoder {
         Ok(Some((len, update, notes)))
     }
 
-    /// What `pull_other` pulls. It is inlined, so that the room of what that gives is cleared where it is called, and not as `pull` begins.
+    /// Calls `pull_other`, inlined, so that the room for its result is cleared here, and not at the beginning of
+    /// `pull`.
     #[inline(always)]
     fn pull_any(
         &mut self,
@@ -212,7 +213,7 @@ impl Decoder {
         self.pull_other(alloc, piece)
     }
 
-    /// Pulls what isn't an UPDATE at the front of a piece that is accepted.
+    /// Pulls anything but an accepted UPDATE at the beginning of a piece.
     #[inline(never)]
     fn pull_other(
         &mut self,
@@ -232,8 +233,9 @@ impl Decoder {
         }
     }
 
-    /// What [`look`](Decoder::look) finds, with memory of its own: how many octets of the piece are taken, how many the message has, none where it is
-    /// a header with a fault, where the decoder goes on, and the outcome. None where the piece is to be fed.
+    /// What [`look`](Decoder::look) finds, as an owned value: the number of octets of the piece consumed, the length of
+    /// the message, 0 for a header with a fault, where the decoder continues, and the outcome. None where the piece is
+    /// to be fed.
     fn own_look(
         &self,
         alloc: Global,

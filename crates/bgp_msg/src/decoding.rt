@@ -1,4 +1,4 @@
-//! The outcomes of a whole stream, in whatever pieces it comes.
+//! The outcomes of a whole stream, however it is cut into pieces.
 
 ghost use Rattle.std.specs.Prelude.{◌≡◌, ◌<◌, ◌≤◌, [], false, length, drop, IfOk};
 ghost use Rattle.std.specs.List.{flat_map};
@@ -14,14 +14,15 @@ use bgp_open::Context;
 use bgp_wire::List;
 use std::alloc::{AllocError, Global};
 
-/// How a stream ends behind an outcome of so many octets, where it ends: a header's fault has none.
+/// How a stream ends after a reset whose message has this length: 0 for a header's fault.
 fn end_behind(len: u16) -> End
     ensures { result ≡ end_behind len }
 {
     if len == 0 { End::Head } else { End::Reset }
 }
 
-/// Takes octets up to the end of a message. Answers how many it took, and what the message comes to, where it was whole.
+/// Consumes octets up to the end of a message. Answers the number consumed, and the message's outcome, where it is
+/// whole.
 fn pull_next(
     alloc: Global,
     decoder: &mut Decoder,
@@ -38,7 +39,8 @@ fn pull_next(
     }
 }
 
-/// Takes octets up to the end of a message, and adds what it comes to. Answers how many it took, and how the stream ended, where it did.
+/// Consumes octets up to the end of a message, and adds its outcome. Answers the number consumed, and how the stream
+/// ended, where it did.
 fn step(
     alloc: Global,
     decoder: &mut Decoder,
@@ -67,7 +69,7 @@ fn step(
     }
 }
 
-/// Adds what the messages in a piece of a stream come to. Answers how the stream ended, where it did.
+/// Adds the outcomes of the messages in a piece of a stream. Answers how the stream ended, where it did.
 fn decode_piece(
     alloc: Global,
     decoder: &mut Decoder,
@@ -91,7 +93,7 @@ fn decode_piece(
     Ok(None)
 }
 
-/// The outcomes of a stream in a context: each message's in order, with its octets in number, up to the first reset; and how the
+/// The outcomes of a stream in a context: each message's in order, with its length, up to the first reset; and how the
 /// stream ends. Where it was cut into pieces has no effect.
 ///
 /// # Errors

@@ -1,4 +1,4 @@
-//! An UPDATE at the front of a piece, owned at once.
+//! An UPDATE at the beginning of a piece, owned at once.
 
 ghost use Rattle.std.specs.Prelude.{◌≡◌, Some, Ok};
 ghost use Rattle.bgp_msg.specs.declared.message.Message.TheVariants as message;
@@ -10,7 +10,7 @@ use bgp_update::{Note, Update};
 use bgp_wire::List;
 use std::alloc::AllocError;
 
-/// An UPDATE of so many octets that is accepted, with notes.
+/// The length of an UPDATE that is accepted, the UPDATE, and its notes.
 pub(crate) type Early = (u16, Update, List<Note>);
 
 /// What a pull gives for such an UPDATE.

@@ -17,7 +17,7 @@ use bgp_open::{Context, Open, WriteOpenFault, write_open};
 use bgp_update::{Invalid, WriteFault, write_update};
 use std::alloc::AllocError;
 
-/// The octets of a BGP Identifier.
+/// The length of a BGP Identifier.
 fn id_len(id: &[u8; 4]) -> usize
     ensures value { result ≡ length id.now }
     ensures fixed { result ≡ 4 }
@@ -102,7 +102,7 @@ pub fn encode(ctx: &Context, message: &Message, out: &mut Vec<u8>) -> Result<(),
     ensures not_valid { (why : Invalid) → IsErrOf result (NotValid why) ↔ (invalid_of ctx.now message.now ≡ Some why) }
     ensures too_long { IsErrOf result TooLong ↔ (IsTrue (is_valid ctx.now message.now) × IsTrue (is_too_long ctx.now message.now)) }
     ensures ok { OnOk result (out.new.items ≡ out.old.items ++ canonical ctx.now message.now) }
-    // What is written is a whole message, which is taken as the one that was meant, without notes.
+    // What is written is a whole message, which decodes to the one that was meant, without notes.
     ensures whole { OnOk result (IsFrame (written ctx.now message.now) (canonical ctx.now message.now)) }
     ensures taken { OnOk result (out_of ctx.now (written ctx.now message.now) ≡ Took message.now []) }
     ensures err { OnErr result (out.new.items ≡ out.old.items) }

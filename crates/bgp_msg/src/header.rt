@@ -1,4 +1,5 @@
-//! The header of a message that is written: room for it comes first, then the body, then the header, which says how long both are.
+//! The header of a message that is written: room for it comes first, then the body, then the header, whose Length
+//! covers both.
 
 ghost use Rattle.std.specs.Prelude.{◌≡◌, ◌+◌, ◌≤◌, ◌++◌, length, take, drop};
 ghost use Rattle.bgp_frame.specs.Prelude.{header, IsLength};
@@ -8,15 +9,15 @@ use bgp_frame::{Kind, head};
 use bgp_update::WriteFault;
 use bgp_wire::Output;
 
-/// Appends room for a header. Answers whether there was memory for it; a body is written in any case, since it may have a fault that is told
-/// first.
+/// Appends room for a header. Answers whether the allocation succeeded; a body is written in any case, since it may
+/// have a fault that is reported first.
 pub(crate) fn put_room(out: &mut Vec<u8>) -> bool
     ensures { out.new.items ≡ out.old.items ++ room_of result }
 {
     out.extend_from_slice(&[255; 19]).is_ok()
 }
 
-/// Puts a header into the room for it at a place, in front of a body.
+/// Writes a header into the room for it at an offset, before a body.
 pub fn put_header<O: Output>(kind: Kind, start: usize, out: &mut O)
     requires room { start + 19 ≤ length (O.written out.old) }
     requires allowed { IsLength kind (length (drop start (O.written out.old))) }
@@ -26,7 +27,7 @@ pub fn put_header<O: Output>(kind: Kind, start: usize, out: &mut O)
     out.replace(start, &head(kind, body_len));
 }
 
-/// Takes back what was appended from a place on, of a message that isn't written. Answers why it isn't.
+/// Removes what was appended from an offset on, of a message that isn't written. Answers why it isn't.
 pub(crate) fn give_up(
     written: Result<(), WriteFault>,
     start: usize,

@@ -15,13 +15,13 @@ pub fn streams_have_one_reading()
     ensures { (ctx : Context) (stream : List ℕ) → AreOctets stream → HasOneReading (stream_rules ctx) stream }
 {}
 
-/// A message that is accepted can be written where it was read, in no more octets than it had.
+/// A message that is accepted can be written where it was read, and is no longer than it was.
 pub fn a_taken_message_can_be_written()
     ensures { (ctx : Context) (m : frame.Message) (octets : List ℕ) (said : Message) (notes : List Note)
         → AreOctets octets → IsFrame m octets → out_of ctx m ≡ Took said notes → CanBeWritten ctx said octets }
 {}
 
-/// A valid message that is written, in no more octets than a message can have, is accepted as itself.
+/// A valid message that is written, no longer than a message can be, is accepted as itself.
 pub fn a_valid_message_is_taken_as_itself()
     ensures { (ctx : Context) (m : Message)
         → HasMessageRanges m → invalid_of ctx m ≡ None → length (canonical ctx m) ≤ 4096 → IsTakenAsItself ctx m }

@@ -1,4 +1,4 @@
-//! The messages of BGP-4: the outcome of each, how it is written, and streams of them in whatever pieces they come
+//! The messages of BGP-4: the outcome of each, how it is written, and streams of them however they are cut into pieces
 //! (RFC 4271, sections 4 and 6; RFC 7606).
 #![tactic(auto)]
 

@@ -1,4 +1,4 @@
-//! What a decoder finds without a change.
+//! What a decoder finds without changing its state.
 
 ghost use Rattle.std.specs.Prelude.{◌≡◌};
 
@@ -8,8 +8,8 @@ use bgp_frame::HeadFault;
 use std::marker::Model;
 use std::snapshot::Snapshot;
 
-/// Where a decoder goes on behind what a look found: what [`Decoder::go`] takes. It belongs to the decoder as it was at the look, and to one in
-/// the same state.
+/// Where a decoder continues after what a look found: the argument of [`Decoder::go`]. It belongs to the decoder as it
+/// was at the look, and to one in the same state.
 #[derive(Drop)]
 pub struct Next {
     resets: bool,
@@ -25,7 +25,7 @@ impl Model for Next {
 }
 
 impl Next {
-    /// Behind a message or a header that was found, which is a reset or none.
+    /// After a message or a header that was found, which is a reset or none.
     pub(crate) fn new(decoder: &Decoder, resets: bool) -> Next
         ensures { result ≡ record { from = decoder.now; resets = resets } }
     {
@@ -41,15 +41,16 @@ impl Next {
     }
 }
 
-/// What a pull from a piece would give, as a view that takes no memory: it points into the piece, or into what the decoder holds.
-/// Who matches it gives each part a name: the borrow checker doesn't cover a match that leaves one out.
+/// What a pull from a piece would give, as a view that allocates nothing: it points into the piece, or into what the
+/// decoder holds. Bind every field when matching: the borrow checker doesn't cover a match that leaves one out.
 #[derive(Drop)]
 pub enum Look<'a> {
-    /// A whole message: how many octets of the piece a pull would consume (none where the message is held), how many octets the message has,
-    /// what it comes to, and where the decoder goes on.
+    /// A whole message: the number of octets of the piece that a pull would consume (none where the message is held),
+    /// its length, its outcome, and where the decoder continues.
     Message(usize, u16, OutcomeView<'a>, Next),
-    /// A header with a fault, how many octets of the piece a pull would consume, and where the decoder goes on.
+    /// A header with a fault, the number of octets of the piece that a pull would consume, and where the decoder
+    /// continues.
     Fault(usize, HeadFault, Next),
-    /// Nothing yet: a pull would feed the piece, and consume nothing behind a reset.
+    /// Nothing yet: a pull would feed the piece, and consume nothing after a reset.
     Feed,
 }

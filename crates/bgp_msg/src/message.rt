@@ -34,7 +34,7 @@ impl Message {
         }
     }
 
-    /// An equal message, with memory of its own.
+    /// An equal message, owned.
     ///
     /// # Errors
     /// `AllocError` where an allocation failed.

@@ -1,4 +1,4 @@
-//! Writing an UPDATE for a speaker with AS numbers of two octets.
+//! Writing an UPDATE for a speaker with 2-octet AS numbers.
 
 ghost use Rattle.std.specs.Prelude.{◌≡◌, ◌+◌, ◌≤◌, ◌++◌, ◌∷◌, false, true, length, IsTrue, IsErrOf, OnOk, OnErr};
 ghost use Rattle.bgp_update.specs.declared.view_narrowing.NarrowFault.TheVariants.{TooLong};
@@ -12,8 +12,9 @@ use bgp_open::Context;
 use bgp_update::{NarrowFault, UpdateView};
 use std::alloc::Global;
 
-/// Appends an UPDATE as a speaker with AS numbers of two octets is told it (RFC 6793, section 4.2.2), as `encode` would in the same session with two
-/// octets. It is written from its view, and memory is taken besides `out` for attributes of types that aren't recognised alone.
+/// Appends an UPDATE as sent to a speaker with 2-octet AS numbers (RFC 6793, section 4.2.2), as `encode` would in the
+/// same session with two octets. It is written from its view, and allocates besides `out` only for attributes of types
+/// that aren't recognised.
 ///
 /// # Errors
 /// `TooLong` where the message would have more than 4096 octets (RFC 4271, section 4.1), `Memory` where an allocation failed; nothing is appended

@@ -21,7 +21,7 @@ pub enum Outcome {
 }
 
 impl Outcome {
-    /// Whether the session ends. A NOTIFICATION that was received is accepted, and is no reset.
+    /// Whether the session ends. A NOTIFICATION that was received is accepted, and isn't a reset.
     pub fn is_reset(&self) -> bool
         ensures { result ≡ is_reset self.now }
     {
@@ -30,7 +30,7 @@ impl Outcome {
             _ => false,
         }
     }
-    /// An equal outcome, with memory of its own.
+    /// An equal outcome, owned.
     ///
     /// # Errors
     /// `AllocError` where an allocation failed.

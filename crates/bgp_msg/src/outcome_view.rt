@@ -13,8 +13,8 @@ use bgp_update::UpdateView;
 use bgp_wire::List;
 use std::alloc::{AllocError, Global};
 
-/// The outcome of a message, or of the header of one: some words that point into its octets, in place of an [`Outcome`] with memory of its own. An
-/// UPDATE's view stands in a place of the caller's.
+/// The outcome of a message, or of the header of one: a few words that point into its octets, instead of an owned
+/// [`Outcome`]. An UPDATE's view is in the caller's buffer.
 #[derive(Clone, Copy)]
 pub enum OutcomeView<'a> {
     /// An OPEN is accepted.
@@ -31,7 +31,8 @@ pub enum OutcomeView<'a> {
     Reset(NotificationView<'a>),
 }
 
-/// An UPDATE that is accepted, with memory of its own. The notes come first: proofs pay for each large value that `?` may drop.
+/// An UPDATE that is accepted, as an owned value. The notes come first: proofs pay for each large value that `?` may
+/// drop.
 #[inline(always)]
 fn own_update(view: &UpdateView<'_>, alloc: Global) -> Result<Outcome, AllocError>
     ensures { IfOk result (λ o. o ≡ outcome.Took (message.Update (update_value view.now)) (notes_value view.now)) }
@@ -41,7 +42,7 @@ fn own_update(view: &UpdateView<'_>, alloc: Global) -> Result<Outcome, AllocErro
     Ok(Outcome::Took(Message::Update(update), notes))
 }
 
-/// An UPDATE that is treated as a withdrawal, with memory of its own.
+/// An UPDATE that is treated as a withdrawal, as an owned value.
 #[inline(always)]
 fn own_withdrawal(view: &UpdateView<'_>, alloc: Global) -> Result<Outcome, AllocError>
     ensures { IfOk result (λ o. o ≡ outcome.Withdraw (routes_value view.now) (notes_value view.now)) }
@@ -63,7 +64,7 @@ impl OutcomeView<'_> {
     ghost use Rattle.bgp_msg.specs.Outcome.{is_reset};
     ghost use Rattle.bgp_msg.specs.OutcomeView.{outcome_value, has_lists};
 
-    /// Whether the session ends. A NOTIFICATION that was received is accepted, and is no reset.
+    /// Whether the session ends. A NOTIFICATION that was received is accepted, and isn't a reset.
     #[inline(always)]
     pub fn is_reset(&self) -> bool
         ensures { result ≡ is_reset (outcome_value self.now) }
@@ -74,7 +75,7 @@ impl OutcomeView<'_> {
         }
     }
 
-    /// The outcome, with memory of its own.
+    /// The outcome, as an owned value.
     ///
     /// # Errors
     /// `AllocError` where an allocation failed: only for an OPEN that is accepted, or an UPDATE that doesn't end the session.

@@ -1,4 +1,4 @@
-//! What a stream has: the outcomes of its messages, and an end.
+//! The outcomes of a stream's messages, and how it ends.
 
 ghost use Rattle.std.specs.Prelude.{◌≡◌, IfOk};
 
@@ -7,18 +7,18 @@ use bgp_frame::End;
 use bgp_wire::List;
 use std::alloc::{AllocError, Global};
 
-/// What a stream of octets has: for each message its octets in number and its outcome, and how the stream ends. A header's fault
-/// is the last outcome, of no octets.
+/// For each message of a stream its length and its outcome, and how the stream ends. A header's fault is the last
+/// outcome, of length 0.
 #[derive(Drop, PartialEq)]
 pub struct Seen {
-    /// Each outcome in order, behind the octets of its message in number: 19 to 4096, or 0 for a header with a fault.
+    /// Each outcome in order, after the length of its message: 19 to 4096, or 0 for a header with a fault.
     pub outs: List<(u16, Outcome)>,
     /// How the stream ends.
     pub end: End,
 }
 
 impl Seen {
-    /// An equal value, with memory of its own.
+    /// An equal value, owned.
     ///
     /// # Errors
     /// `AllocError` where an allocation failed.

@@ -28,7 +28,7 @@ fn view_of_fault(fault: OpenFault) -> OutcomeView<'static>
     }
 }
 
-/// What the body of an OPEN comes to.
+/// The outcome of an OPEN's body.
 fn view_of_open(body: &[u8]) -> OutcomeView<'_>
     requires { 10 ≤ length body.now }
     ensures { outcome_value result ≡ of_reading (reading_of body.entry.now) }
@@ -39,7 +39,7 @@ fn view_of_open(body: &[u8]) -> OutcomeView<'_>
     }
 }
 
-/// What the body of an UPDATE comes to.
+/// The outcome of an UPDATE's body.
 #[inline(always)]
 fn view_of_update<'b, 'a>(
     ctx: &Context,
@@ -56,7 +56,8 @@ fn view_of_update<'b, 'a>(
     }
 }
 
-/// What the body of a NOTIFICATION says (RFC 4271, section 4.5): the octets behind the header, of which a whole NOTIFICATION has at least 2.
+/// The content of a NOTIFICATION's body (RFC 4271, section 4.5): the octets after the header, at least 2 in a whole
+/// NOTIFICATION.
 pub fn notification_in(body: &[u8]) -> NotificationView<'_>
     requires least { 2 ≤ length body.now }
     requires most { length body.now ≤ 4077 }
@@ -69,8 +70,8 @@ pub fn notification_in(body: &[u8]) -> NotificationView<'_>
     }
 }
 
-/// The outcome of a whole message in a context, without memory. The view of an UPDATE goes into a place, whatever was there before: start with
-/// [`UpdateView::empty`], and use the place again for the next message.
+/// The outcome of a whole message in a context, without memory. The view of an UPDATE is written into `place`, over
+/// whatever it held: start with [`UpdateView::empty`], and use it again for the next message.
 #[inline(always)]
 pub fn view_frame<'b, 'a>(
     ctx: &Context,
@@ -88,7 +89,7 @@ pub fn view_frame<'b, 'a>(
     }
 }
 
-/// The outcome of a whole message in a context, with memory of its own.
+/// The outcome of a whole message in a context, as an owned value.
 ///
 /// # Errors
 /// `AllocError` where an allocation failed: only for an OPEN or an UPDATE that doesn't end the session.

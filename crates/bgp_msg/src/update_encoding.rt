@@ -1,4 +1,4 @@
-//! Writing an UPDATE that no message holds.
+//! Writing an UPDATE that isn't in a `Message`.
 
 ghost use Rattle.std.specs.Prelude.{◌≡◌, ◌++◌, ◌↔◌, Some, IsTrue, IsErrOf, OnOk, OnErr};
 ghost use Rattle.bgp_update.specs.declared.invalid.Invalid.{Invalid};
@@ -30,7 +30,7 @@ impl Body for Update {
     }
 }
 
-/// Appends an UPDATE as `encode` does, without a message that holds it.
+/// Appends an UPDATE as `encode` does, without a `Message` around it.
 ///
 /// # Errors
 /// As `encode`.
@@ -38,7 +38,7 @@ pub fn encode_update(ctx: &Context, update: &Update, out: &mut Vec<u8>) -> Resul
     ensures not_valid { (why : Invalid) → IsErrOf result (NotValid why) ↔ (invalid_of ctx.now (message.Update update.now) ≡ Some why) }
     ensures too_long { IsErrOf result TooLong ↔ (IsTrue (is_valid ctx.now (message.Update update.now)) × IsTrue (is_too_long ctx.now (message.Update update.now))) }
     ensures ok { OnOk result (out.new.items ≡ out.old.items ++ canonical ctx.now (message.Update update.now)) }
-    // Each number of it is within its field.
+    // Each of its numbers is within its field.
     ensures ranges { OnOk result (HasUpdateRanges update.now) }
     ensures err { OnErr result (out.new.items ≡ out.old.items) }
 {

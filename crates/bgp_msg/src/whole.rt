@@ -12,7 +12,7 @@ use bgp_frame::Kind;
 use bgp_open::Context;
 use bgp_update::WriteFault;
 
-/// What has a body to write: a message, or an UPDATE that no message holds.
+/// What has a body to write: a message, or an UPDATE that isn't in a `Message`.
 pub(crate) trait Body {
     ghost use Rattle.bgp_open.specs.declared.context.Context.{Context};
     ghost use Rattle.bgp_msg.specs.declared.message.Message.{Message};

@@ -3,10 +3,10 @@
 /// ORIGIN: where the route came from (RFC 4271, section 5.1.1).
 pub const ORIGIN: u8 = 1;
 
-/// AS_PATH: the systems on the way (RFC 4271, section 5.1.2).
+/// AS_PATH: the ASes that the route passed (RFC 4271, section 5.1.2).
 pub const AS_PATH: u8 = 2;
 
-/// NEXT_HOP: the router to send to (RFC 4271, section 5.1.3).
+/// NEXT_HOP: the router to forward to (RFC 4271, section 5.1.3).
 pub const NEXT_HOP: u8 = 3;
 
 /// MULTI_EXIT_DISC (RFC 4271, section 5.1.4).

@@ -1,4 +1,4 @@
-//! Codes of notifications, and their subcodes (RFC 4271, section 4.5).
+//! Codes of NOTIFICATIONs, and their subcodes (RFC 4271, section 4.5).
 
 /// Message Header Error (RFC 4271, section 6.1).
 pub const MESSAGE_HEADER: u8 = 1;
@@ -18,7 +18,10 @@ pub const FINITE_STATE_MACHINE: u8 = 5;
 /// Cease (RFC 4271, section 6.7).
 pub const CEASE: u8 = 6;
 
-/// No subcode says more.
+/// ROUTE-REFRESH Message Error (RFC 7313, section 5).
+pub const ROUTE_REFRESH_MESSAGE: u8 = 7;
+
+/// Unspecific: the subcode of an error for which none is defined.
 pub const UNSPECIFIC: u8 = 0;
 
 /// Message Header Error: Connection Not Synchronized.
@@ -74,3 +77,6 @@ pub const ADMINISTRATIVE_RESET: u8 = 4;
 
 /// Cease: Connection Rejected (RFC 4486, section 3).
 pub const CONNECTION_REJECTED: u8 = 5;
+
+/// ROUTE-REFRESH Message Error: Invalid Message Length (RFC 7313, section 5).
+pub const INVALID_REFRESH_LENGTH: u8 = 1;

@@ -1,4 +1,4 @@
-//! The numbers that the standards of BGP-4 give a meaning, by name: so that each stands once.
+//! The numbers that the standards of BGP-4 assign, by name: each is written once.
 #![tactic(auto)]
 
 pub mod afi;
@@ -13,7 +13,7 @@ pub mod segment;
 /// The version of BGP-4 in an OPEN (RFC 4271, section 4.2).
 pub const VERSION: u8 = 4;
 
-/// The AS number that stands where two octets can't hold the real one (RFC 6793, section 9).
+/// The AS number in a field of two octets instead of one that needs four (RFC 6793, section 9).
 pub const AS_TRANS: u16 = 23456;
 
 #[cfg(test)]

@@ -11,3 +11,6 @@ pub const NOTIFICATION: u8 = 3;
 
 /// KEEPALIVE (RFC 4271, section 4.4).
 pub const KEEPALIVE: u8 = 4;
+
+/// ROUTE-REFRESH (RFC 2918, section 3).
+pub const ROUTE_REFRESH: u8 = 5;

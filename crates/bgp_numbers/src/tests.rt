@@ -1,33 +1,40 @@
 use super::*;
 use std::test::*;
 
-// The values are those of the IANA registries, written down again; each registry's name stands above its numbers.
+// The values are those of the IANA registries, written down again; each registry's name is above its numbers.
 #[test]
 fn numbers_are_those_of_the_registries(rt: HostRuntime) {
     // The version in an OPEN (RFC 4271); Special-Purpose AS Numbers: AS_TRANS (RFC 6793).
     assert!(rt; VERSION == 4);
     assert!(rt; AS_TRANS == 23456);
-    // BGP Message Types (RFC 4271).
+    // BGP Message Types (RFC 4271, RFC 2918).
     assert!(rt;
         [
             message::OPEN,
             message::UPDATE,
             message::NOTIFICATION,
-            message::KEEPALIVE
-        ] == [1, 2, 3, 4]
+            message::KEEPALIVE,
+            message::ROUTE_REFRESH
+        ] == [1, 2, 3, 4, 5]
     );
     // Address Family Numbers; Subsequent Address Family Identifiers (RFC 4760).
     assert!(rt; [afi::IPV4, afi::IPV6] == [1, 2]);
     assert!(rt; safi::UNICAST == 1);
-    // BGP OPEN Optional Parameter Types (RFC 5492); Capability Codes (RFC 4760, RFC 6793, RFC 7911).
+    // BGP OPEN Optional Parameter Types (RFC 5492); Capability Codes (RFC 4760, RFC 2918, RFC 8950, RFC 8654, RFC 6793, RFC 7911, RFC 7313).
     assert!(rt; parameter::CAPABILITIES == 2);
     assert!(rt;
         [
             capability::MULTIPROTOCOL,
+            capability::ROUTE_REFRESH,
+            capability::EXTENDED_NEXT_HOP,
+            capability::EXTENDED_MESSAGE,
             capability::FOUR_OCTET_AS,
-            capability::ADD_PATH
-        ] == [1, 65, 69]
+            capability::ADD_PATH,
+            capability::ENHANCED_ROUTE_REFRESH
+        ] == [1, 2, 5, 6, 65, 69, 70]
     );
+    // BGP Error Codes; Route Refresh Error subcodes (RFC 7313).
+    assert!(rt; error::ROUTE_REFRESH_MESSAGE == 7 && error::INVALID_REFRESH_LENGTH == 1);
     // BGP AS_PATH Segment Types (RFC 4271, RFC 5065).
     assert!(rt;
         [

@@ -17,7 +17,7 @@ use Rattle.bgp_open.proofs.Configs.{allowed-wide}
 
 -- ---- both sides
 
--- what a speaker offers is found again
+-- the capabilities that a speaker offers are read back
 abbrev offers : Bool → Bool → Bool → ℕ → List Capability
 offers p q r n = offered p (Multi IPV4 UNICAST) ++ (offered q (Multi IPV6 UNICAST) ++ offered r (As4 n))
 
@@ -94,7 +94,7 @@ both_agree a b x y allowed_a allowed_b ea eb =
     let to_a : b.peer_as ≡ a.local_as = sym (eqb-true _ _ q.0) ∙ peer_as-own a allowed_a in
     sym p.1 ∙ context-own a b ∙ shared_swaps a b to_b to_a ∙ sym (context-own b a) ∙ q.1
 
--- ---- by both OPENs
+-- ---- from both OPENs
 
 absorbs : (x y : Bool) → (x && (x || y)) ≡ x
 absorbs true y = refl
@@ -108,7 +108,7 @@ and-not : (x : Bool) → (x && not x) ≡ false
 and-not true = refl
 and-not false = refl
 
--- a number that needs four octets isn't one of two
+-- a number that needs four octets differs from any of two
 differ : (m n : ℕ) → is_wide m ≡ true → is_wide n ≡ false → eqb m n ≡ false
 differ m n wide narrow = ne_eqb m n (λ e. true≢false (sym wide ∙ ap is_wide e ∙ narrow))
 
@@ -116,7 +116,7 @@ differ m n wide narrow = ne_eqb m n (λ e. true≢false (sym wide ∙ ap is_wide
 abbrev one_as : Option ℕ → ℕ → Option ℕ → ℕ → Bool
 one_as p f q g = cond (is_some p && is_some q) (eqb (unwrap_or p f) (unwrap_or q g)) (eqb f g && (eqb (unwrap_or p f) (unwrap_or q g) || not (eqb f AS_TRANS)))
 
--- an allowed speaker finds so whether its number is the other's
+-- an allowed speaker finds this by comparing its number with the other's
 one_as-finds : (m n : ℕ) (p q v w : Bool) → is_wide m ≡ v → is_wide n ≡ w → (v && not p) ≡ false
     → one_as (cond p (Some m) None) (cond v AS_TRANS m) (cond q (Some n) None) (cond w AS_TRANS n) ≡ eqb m (unwrap_or (cond q (Some n) None) (cond w AS_TRANS n))
 one_as-finds m n true true v w at_m at_n allowed = refl

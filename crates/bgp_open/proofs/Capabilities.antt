@@ -12,7 +12,7 @@ finds c front back p =
     ap (λ (x : List ℕ). one_capability (x ++ back)) p.octets
     ∙ rw (first_octets-finds p.value back, p.means) refl
 
--- the capability in front of octets
+-- the capability at the front of octets
 abbrev in_front : List ℕ → Capability → Option (Capability × List ℕ)
 in_front back c = Some (c, back)
 

@@ -1,4 +1,4 @@
--- What a speaker says of itself is spelled by its written form, and its capabilities are read from their row.
+-- A speaker's own OPEN is spelled by its written form, and its capabilities are read from their row.
 use Rattle.bgp_wire.proofs.Std.{◌≡◌, List, ap, ◌∙◌, ℕ, ◌<◌, ◌^◌, Bool, true, false, cond, ◌++◌, length, refl, arith, list_any, AllByRecursion, ltb-false}
 use Rattle.bgp_wire.specs.Prelude.{Row, pieces}
 use Rattle.bgp_wire.proofs.Behinds.{pieces-whole}
@@ -42,7 +42,7 @@ field-fits false n e = omega (arith, ltb-false 65535 n e)
 own-row : (s : Settings) → s.local_as < 2 ^ 32 → Row IsCapability (own_caps s) (row_octets (own_caps s))
 own-row s small = ranges-spell (own_caps s) (caps-fit s.ip4 s.ip6 s.as4 s.local_as small) (caps-named s.ip4 s.ip6 s.as4 s.local_as)
 
--- what is offered is read from its row
+-- the capabilities offered are read from their row
 pub own-read : (s : Settings) (caps : List Capability) (row : List ℕ) → s.local_as < 2 ^ 32 → row ≡ row_octets (own_caps s) → caps ≡ (pieces one_capability row).0 → caps ≡ own_caps s
 own-read s caps row small is read =
     read ∙ ap (λ (b : List ℕ). (pieces one_capability b).0) is

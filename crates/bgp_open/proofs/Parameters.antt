@@ -48,7 +48,7 @@ none_both : (t : Bool) → cond t nothing nothing ≡ nothing
 none_both true = refl
 none_both false = refl
 
--- the capabilities of the octets, where they are nothing else
+-- the capabilities of the octets, where there is nothing else
 abbrev whole_in : List ℕ × List ℕ → Option (List Capability × List ℕ)
 whole_in cut = cond (eqb (length (pieces one_capability cut.0).1) 0) (Some ((pieces one_capability cut.0).0, cut.1)) None
 

@@ -1,4 +1,4 @@
--- What capabilities tell one by one is what they tell together.
+-- What is collected capability by capability is what all capabilities give together.
 use Rattle.std.proofs.Common.{◌≡◌, ℕ, Bool, true, false, ◌||◌, eqb, List, [], ◌∷◌, Option, Some, None, refl, sym, ◌∙◌}
 use Rattle.std.specs.List.{list_any}
 use Rattle.std.specs.Option.{option_or}
@@ -25,7 +25,7 @@ number-both None (Multi family subsequent) later = refl
 number-both None (As4 k) later = refl
 number-both None (Other code value) later = refl
 
--- what was told, and what these capabilities tell
+-- what was collected so far, and what these capabilities add
 abbrev with : Told → List Capability → Told
 with p caps = record {
   as_field = p.as_field;
@@ -52,7 +52,7 @@ offering-with p (c ∷ later) =
     (number-both p.as4 c later) (or_assoc p.ip4 (is_unicast IPV4 c) _) (or_assoc p.ip6 (is_unicast IPV6 c) _)
     (λ i code. or_turned (p.codes code) (eqb code (code_of c)) (codes_of later code) i)
 
--- an OPEN tells what its capabilities tell one by one
+-- what an OPEN gives is collected capability by capability
 pub offering-open : (o : Open) → offering (plain o.as_field o.hold o.id) o.caps ≡ told_by o
 offering-open o = offering-with (plain o.as_field o.hold o.id) o.caps
 

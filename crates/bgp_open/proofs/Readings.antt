@@ -1,4 +1,4 @@
--- An OPEN is read as what it spells, and what is read is spelled so.
+-- An OPEN is read as what its octets spell, and octets that are read spell it.
 use Rattle.bgp_wire.proofs.Std.{◌≡◌, ◌≢◌, ℕ, ◌≤◌, Bool, true, false, not, ◌&&◌, cond, eqb, ltb, List, [], ◌∷◌, length, Option, Some, None, Result, Ok, Err, refl, sym, ap, subst, ◌∙◌, not-false}
 use Rattle.std.specs.Prelude.{IfOk}
 use Rattle.std.proofs.lemmas.Bool.{eqb-true, eq-eqb, ne_eqb, true≢false}
@@ -76,7 +76,7 @@ none-passes false false None false false e = record { version = refl; counted = 
 abbrev body_tests : List ℕ → Option OpenFault
 body_tests body = tests (not (eqb (version_of body) VERSION)) (not (eqb (length_of body) (length (parameters_of body)))) (rest_fault (pieces one_parameter (parameters_of body)).1) (is_short_hold (hold_of body)) (is_zero_id (id_of body))
 
--- what is spelled has no fault, and its row is what the pieces are
+-- what spells an OPEN has no fault, and its parameters are the pieces that the reader finds
 row_found : (o : Open) (body : List ℕ) (p : IsOpen o body) → pieces one_parameter (parameters_of body) ≡ (p.parameters, [])
 row_found o body p = pieces-whole (List Capability) IsParameter one_parameter parameter-reads p.parameters (parameters_of body) p.row
 
@@ -121,7 +121,7 @@ no_fault-open body long e =
       caps = refl;
     }
 
--- ---- the answer of a reader
+-- ---- the result of a reader
 
 or_fault-ok : (f : Option OpenFault) (v o : Open) → or_fault f v ≡ Ok o → (f ≡ None) × (v ≡ o)
 or_fault-ok None v o e = (refl, cc)

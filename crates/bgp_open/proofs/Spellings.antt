@@ -12,7 +12,7 @@ use Rattle.bgp_open.specs.Prelude.{IsCapability, IsParameter, IsHold, zero_id, i
 use Rattle.bgp_open.proofs.Capabilities.{capability-reads}
 use Rattle.bgp_open.proofs.Readings.{hold-short, id-zero}
 
--- capabilities without octets are none
+-- no octets hold no capabilities
 no_caps : (caps : List Capability) (row : List ℕ) → row ≡ [] → Row IsCapability caps row → caps ≡ []
 no_caps [] row nil p = refl
 no_caps (c ∷ caps) row nil p =

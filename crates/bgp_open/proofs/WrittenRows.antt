@@ -10,7 +10,7 @@ use Rattle.bgp_wire.proofs.Rows.{Row-push}
 use Rattle.bgp_open.specs.declared.capability.Capability.{Capability}
 use Rattle.bgp_open.specs.Prelude.{IsCapability, capability_octets, row_octets, is_misnamed, is_bad_row}
 
--- b is the written row of the capabilities, and can stand in a parameter
+-- b is the written row of the capabilities, and fits in a parameter
 pub record IsRowOf (caps : List Capability) (b : List ℕ) : Type 0 where
   pub octets : b ≡ row_octets caps
   pub spelled : Row IsCapability caps b
@@ -36,7 +36,7 @@ row-grows caps i x b now lt is so_far name more spells room =
 pub row-whole : (caps : List Capability) (i : ℕ) (b : List ℕ) → length caps ≤ i → IsRowOf (take i caps) b → IsRowOf caps b
 row-whole caps i b le so_far = subst (λ (cs : List Capability). IsRowOf cs b) (take_all i caps le) so_far
 
--- ---- which rows can't stand in a parameter
+-- ---- which rows don't fit in a parameter
 
 pub row-misnamed : (caps : List Capability) (i : ℕ) (x : Capability) → i < length caps → x ≡ get_or caps i x → true ≡ is_misnamed x → is_bad_row caps ≡ true
 row-misnamed caps i x lt is name =

@@ -5,14 +5,14 @@ use Rattle.bgp_open.specs.declared.context.Context.{Context}
 use Rattle.bgp_open.specs.declared.message.Open.{Open}
 use Rattle.bgp_open.specs.Peer.{Said, number_of, said_by}
 
--- Both are in one AS. Where one speaker alone has AS numbers of four octets, the other knows it by its My Autonomous System (RFC 6793, section 4.1): that
--- field is compared then. AS_TRANS in it stands for a number that needs four octets, and so for no AS of two.
+-- Both are in one AS. Where one alone has AS numbers of four octets, the other knows it by its My Autonomous System (RFC 6793, section 4.1): that
+-- field is compared then. AS_TRANS in it means a number that needs four octets, and so equals no AS number of two.
 abbrev pub is_one_as : Said → Said → Bool
 is_one_as ours theirs =
     if is_some ours.as4 && is_some theirs.as4 then number_of ours == number_of theirs else
     (ours.as_field == theirs.as_field) && ((number_of ours == number_of theirs) || not (ours.as_field == AS_TRANS))
 
--- the context of a session, by what both speakers said of themselves; neither is refused
+-- the context of a session, from the OPEN parameters of both speakers; neither is refused
 abbrev pub agreed_with : Said → Said → Context
 agreed_with ours theirs = record {
   internal = is_one_as ours theirs;

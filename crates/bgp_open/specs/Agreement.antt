@@ -1,4 +1,4 @@
--- What two speakers agree on, as one of them finds it from its settings and the peer's OPEN, and the answer to a peer that isn't
+-- What two speakers agree on, as one of them finds it from its settings and the peer's OPEN, and the NOTIFICATION to a peer that isn't
 -- accepted (RFC 4271, sections 4.2 and 6.2).
 use Rattle.std.specs.Prelude.{ℕ, Bool, false, not, ◌&&◌, ◌==◌, List, [], ◌∷◌, min, is_some, Result, Ok, Err, if◌then◌else◌}
 use Rattle.std.specs.List.{list_any}
@@ -39,7 +39,7 @@ abbrev pub same_id : List ℕ → List ℕ → Bool
 same_id (a ∷ b ∷ c ∷ d ∷ []) (e ∷ f ∷ g ∷ h ∷ []) = (a == e) && ((b == f) && ((c == g) && (d == h)))
 same_id _ _ = false
 
--- the peer has to be the one that is configured, and inside one AS it needs an identifier of its own (RFC 4271, section 6.2; RFC 6286, section 2.2)
+-- the peer has to be the one that is configured, and inside one AS its identifier has to differ (RFC 4271, section 6.2; RFC 6286, section 2.2)
 abbrev pub agreement_with : Settings → Said → Result Context PeerFault
 agreement_with s p =
     if not (number_of p == s.peer_as) then Err PeerAs else (
@@ -49,7 +49,7 @@ agreement_with s p =
 abbrev pub agreement : Settings → Open → Result Context PeerFault
 agreement s o = agreement_with s (said_by o)
 
--- the answer to a peer that isn't accepted
+-- the NOTIFICATION to a peer that isn't accepted
 abbrev pub peer_notification : PeerFault → Notification
 peer_notification PeerAs = open_error BAD_PEER_AS []
 peer_notification Identifier = open_error BAD_IDENTIFIER []

@@ -6,7 +6,7 @@ use Rattle.bgp_numbers.specs.declared.capability.TheConstants.{MULTIPROTOCOL, FO
 use Rattle.bgp_open.specs.declared.capability.Capability.{Capability}
 use Rattle.bgp_open.specs.declared.capability.Capability.TheVariants.{Multi, As4, Other}
 
--- an address family, a reserved octet that can be any, and a subsequent address family (RFC 4760, section 8)
+-- an address family, a reserved octet of any value, and a subsequent address family (RFC 4760, section 8)
 abbrev pub multi_of : List ℕ → Option Capability
 multi_of (high ∷ low ∷ reserved ∷ subsequent ∷ []) = Some (Multi (from_be_bytes w16 (high ∷ low ∷ [])) subsequent)
 multi_of _ = None
@@ -16,7 +16,7 @@ abbrev pub as4_of : List ℕ → Option Capability
 as4_of (a ∷ b ∷ c ∷ d ∷ []) = Some (As4 (from_be_bytes w32 (a ∷ b ∷ c ∷ d ∷ [])))
 as4_of _ = None
 
--- what a value of this code means: the values of two codes have four octets
+-- the meaning of a value under this code: the values of two codes have four octets
 abbrev pub capability_of : ℕ → List ℕ → Option Capability
 capability_of code value =
     if code == MULTIPROTOCOL then multi_of value else (
@@ -29,14 +29,14 @@ code_of (Multi family subsequent) = MULTIPROTOCOL
 code_of (As4 number) = FOUR_OCTET_AS
 code_of (Other code value) = code
 
--- b is the capability c, whole
+-- b is exactly the capability c
 pub record IsCapability (c : Capability) (b : List ℕ) : Type 0 where
   pub code : ℕ
   pub value : List ℕ
   pub octets : b ≡ code ∷ length value ∷ value
   pub means : capability_of code value ≡ Some c
 
--- reads the capability at the front: none where it is cut off, or its length isn't that of its code
+-- reads the capability at the front: none where it is cut off, or its length isn't that which its code has
 unfoldable pub one_capability : List ℕ → Option (Capability × List ℕ)
 one_capability (code ∷ n ∷ b) = do
   value ← first_octets n b

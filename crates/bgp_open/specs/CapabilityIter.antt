@@ -11,6 +11,6 @@ use Rattle.bgp_open.specs.Parameter.{one_parameter}
 abbrev pub capabilities_of : List ℕ → List Capability
 capabilities_of parameters = joined (pieces one_parameter parameters).0
 
--- those of the parameter that was begun, and those behind it
+-- those of the parameter that was begun, and those after it
 abbrev pub capabilities_left : CapabilityIter → List Capability
 capabilities_left it = (pieces one_capability it.begun.now).0 ++ capabilities_of it.later.now

@@ -1,4 +1,4 @@
--- What a capability that lies in borrowed octets is as a value.
+-- The value of a capability that is borrowed from the octets read.
 use Rattle.bgp_open.specs.declared.capability.Capability.{Capability}
 use Rattle.bgp_open.specs.declared.capability.Capability.TheVariants as capability
 use Rattle.bgp_open.specs.declared.capability_view.CapabilityView.{CapabilityView}

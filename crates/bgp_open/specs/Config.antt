@@ -1,4 +1,4 @@
--- What a speaker is set to, and which settings are refused.
+-- The settings of a speaker, and which are refused.
 use Rattle.std.specs.Prelude.{◌≡◌, ℕ, Bool, not, ◌&&◌, ◌==◌, List, Option, None, Some, Result, Ok, Err, if◌then◌else◌}
 use Rattle.bgp_open.specs.declared.config.BadConfig.{BadConfig}
 use Rattle.bgp_open.specs.declared.config.BadConfig.TheVariants.{LocalAs, PeerAs, Identifier, Hold, AsWidth}

@@ -32,7 +32,7 @@ pub record IsHold (hold : ℕ) : Type 0 where
   pub not_one : hold ≢ 1
   pub not_two : hold ≢ 2
 
--- no speaker has this identifier (RFC 6286, section 2.1)
+-- not a valid identifier of a speaker (RFC 6286, section 2.1)
 abbrev pub zero_id : List ℕ
 zero_id = 0 ∷ 0 ∷ 0 ∷ 0 ∷ []
 
@@ -51,7 +51,7 @@ is_wide number = nat_lt 65535 number
 abbrev pub joined : List (List Capability) → List Capability
 joined parameters = flat_map (λ cs. cs) parameters
 
--- the body is the OPEN o, whole
+-- the body is exactly the OPEN o
 pub record IsOpen (o : Open) (body : List ℕ) : Type 0 where
   pub fixed : 10 ≤ length body
   pub version : version_of body ≡ VERSION

@@ -1,4 +1,4 @@
--- What is wrong with the body of an OPEN, and the answer (RFC 4271, sections 6.2 and 4.5). The order of the tests is this project's own.
+-- What is wrong with the body of an OPEN, and the NOTIFICATION (RFC 4271, sections 6.2 and 4.5). The order of the tests is this project's own.
 use Rattle.std.specs.Prelude.{◌≡◌, ◌==◌, ◌≢◌, ℕ, not, nat_lt, List, [], ◌∷◌, length, Option, None, Some, Result, Ok, Err, IsOk, if◌then◌else◌}
 use Rattle.bgp_wire.specs.Prelude.{when, pieces}
 use Rattle.bgp_numbers.specs.declared.TheConstants.{VERSION}
@@ -17,7 +17,7 @@ first_fault [] = None
 first_fault (None ∷ later) = first_fault later
 first_fault (Some fault ∷ later) = Some fault
 
--- what is left behind the last parameter: nothing, or octets that begin no parameter. These are cut off, or of an unknown
+-- what is left after the last parameter: nothing, or octets that begin no parameter. These are cut off, or of an unknown
 -- type, or hold capabilities that are cut off or of a wrong length
 abbrev pub rest_fault : List ℕ → Option OpenFault
 rest_fault [] = None
@@ -53,7 +53,7 @@ or_fault (Some fault) o = Err fault
 abbrev pub reading_of : List ℕ → Result Open OpenFault
 reading_of body = or_fault (open_fault body) (open_of body)
 
--- what was answered is the reading, or memory ran out where there is a value
+-- the result is the reading, or memory ran out where there is a value
 abbrev pub FailsAs : OpenFault → Result Open OpenFault → Type 0
 FailsAs Memory reading = IsOk reading
 FailsAs fault reading = reading ≡ Err fault
@@ -67,11 +67,11 @@ abbrev pub HasValueOrFault : List ℕ → Option OpenFault → Type 0
 HasValueOrFault body None = IsOpen (open_of body) body × ((o : Open) → IsOpen o body → o ≡ open_of body)
 HasValueOrFault body (Some fault) = (fault ≢ Memory) × ((o : Open) → IsOpen o body → ⊥)
 
--- an answer of code 2, OPEN Message Error
+-- a NOTIFICATION of code 2, OPEN Message Error
 abbrev pub open_error : ℕ → List ℕ → Notification
 open_error subcode info = record { code = OPEN_MESSAGE; subcode = subcode; info = record { items = info } }
 
--- the notification of a fault: the version that is spoken here is the information of an unsupported one, and an allocation that failed has none
+-- the NOTIFICATION of a fault: the version supported here is the data for an unsupported one, and a failed allocation has no NOTIFICATION
 abbrev pub open_notification : OpenFault → Option Notification
 open_notification Version = Some (open_error UNSUPPORTED_VERSION (0 ∷ VERSION ∷ []))
 open_notification Parameter = Some (open_error UNSPECIFIC [])

@@ -1,4 +1,4 @@
--- What a borrowed OPEN is.
+-- The value of a borrowed OPEN.
 use Rattle.std.specs.Prelude.{◌≡◌, Result, Ok, Err}
 use Rattle.bgp_open.specs.declared.fault.OpenFault.{OpenFault}
 use Rattle.bgp_open.specs.declared.message.Open.{Open}
@@ -8,7 +8,7 @@ use Rattle.bgp_open.specs.OpenFault.{open_of}
 abbrev pub open_value : OpenView → Open
 open_value v = open_of v.body.now
 
--- what was answered is the reading, without memory
+-- the result is the reading, without an allocation
 abbrev pub IsViewedAs : Result OpenView OpenFault → Result Open OpenFault → Type 0
 IsViewedAs (Ok v) reading = reading ≡ Ok (open_value v)
 IsViewedAs (Err fault) reading = reading ≡ Err fault

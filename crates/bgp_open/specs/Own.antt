@@ -1,4 +1,4 @@
--- What a speaker says of itself.
+-- A speaker's own OPEN.
 use Rattle.std.specs.Prelude.{ℕ, Bool, List, [], ◌∷◌, ◌++◌, if◌then◌else◌}
 use Rattle.bgp_numbers.specs.declared.TheConstants.{AS_TRANS}
 use Rattle.bgp_numbers.specs.declared.afi.TheConstants.{IPV4, IPV6}
@@ -9,7 +9,7 @@ use Rattle.bgp_open.specs.declared.message.Open.{Open}
 use Rattle.bgp_open.specs.Open.{is_wide}
 use Rattle.bgp_open.specs.Config.{Settings}
 
--- My Autonomous System: the number, or what stands there for one that needs four octets (RFC 6793, sections 4.1 and 9)
+-- My Autonomous System: the number, or AS_TRANS for one that needs four octets (RFC 6793, sections 4.1 and 9)
 abbrev pub field_for : ℕ → ℕ
 field_for number = if is_wide number then AS_TRANS else number
 

@@ -1,12 +1,12 @@
 -- Optional parameters of an OPEN (RFC 4271, section 4.2): a type, the length of the value, the value.
--- A parameter of type 2 holds capabilities, none, one or many (RFC 5492, section 4).
+-- A parameter of type 2 holds any number of capabilities (RFC 5492, section 4).
 use Rattle.std.specs.Prelude.{◌≡◌, ℕ, ◌==◌, List, [], ◌∷◌, Option, None, if◌then◌else◌}
 use Rattle.bgp_wire.specs.Prelude.{BehindLength, behind_length}
 use Rattle.bgp_numbers.specs.declared.parameter.TheConstants.{CAPABILITIES}
 use Rattle.bgp_open.specs.declared.capability.Capability.{Capability}
 use Rattle.bgp_open.specs.Capability.{IsCapability, one_capability}
 
--- b is a parameter that holds these capabilities, whole
+-- b is exactly a parameter that holds these capabilities
 pub record IsParameter (cs : List Capability) (b : List ℕ) : Type 0 where
   pub value : List ℕ
   pub octets : b ≡ CAPABILITIES ∷ value

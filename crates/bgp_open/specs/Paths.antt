@@ -12,7 +12,7 @@ use Rattle.bgp_open.specs.declared.paths.Role.{Role}
 use Rattle.bgp_open.specs.declared.paths.Role.TheVariants.{Reads, Sends}
 use Rattle.bgp_open.specs.Peer.{said_by}
 
--- Send/Receive: 1 reads, 2 sends, 3 does both; the standard has no others
+-- Send/Receive: 1 receives, 2 sends, 3 does both; the standard has no others
 abbrev pub is_role : ℕ → Bool
 is_role code = (code == 1) || ((code == 2) || (code == 3))
 
@@ -20,14 +20,14 @@ abbrev pub does : Role → ℕ → Bool
 does Reads code = (code == 1) || (code == 3)
 does Sends code = (code == 2) || (code == 3)
 
--- A row of families, each of four octets: AFI 2, SAFI 1, Send/Receive 1. Where octets are left, or a Send/Receive is another, the capability isn't
--- understood, and ignored as a whole.
+-- A row of families, each of four octets: AFI 2, SAFI 1, Send/Receive 1. Where octets are left over, or a Send/Receive differs, the capability isn't
+-- understood, and is ignored as a whole.
 abbrev pub is_path_row : List ℕ → Bool
 is_path_row [] = true
 is_path_row (a ∷ b ∷ safi ∷ code ∷ later) = is_role code && is_path_row later
 is_path_row _ = false
 
--- the speaker does so with unicast routes of this family
+-- the speaker has this role for unicast routes of this family
 abbrev pub has_role : Role → ℕ → List ℕ → Bool
 has_role role family (a ∷ b ∷ safi ∷ code ∷ later) =
     ((from_be_bytes w16 (a ∷ b ∷ []) == family) && ((safi == UNICAST) && does role code)) || has_role role family later
@@ -38,15 +38,15 @@ offers_role role family (Other code value) = (code == ADD_PATH) && (is_path_row 
 offers_role role family (Multi of subsequent) = false
 offers_role role family (As4 number) = false
 
--- one of an OPEN's capabilities says so
+-- one of an OPEN's capabilities gives the speaker this role
 abbrev pub takes_role : Role → ℕ → Open → Bool
 takes_role role family o = list_any (offers_role role family) o.caps
 
--- unicast routes of this family have identifiers in what one speaker sends the other
+-- unicast routes of this family have path identifiers in this direction
 abbrev pub has_paths : ℕ → Open → Open → Bool
 has_paths family sender reader = takes_role Sends family sender && takes_role Reads family reader
 
--- Routes have identifiers in what one speaker sends the other: of IPv4, whose NLRI is read on each session, or of IPv6 where both offer it
+-- Routes have path identifiers in this direction: those of IPv4, whose NLRI is read on each session, or those of IPv6 where both offer it
 abbrev pub agree_on_paths : Open → Open → Bool
 agree_on_paths sender reader =
     has_paths IPV4 sender reader

@@ -1,4 +1,4 @@
--- What an OPEN tells of the speaker that sent it, as far as a session keeps it (RFC 4271, section 4.2; RFC 5492).
+-- The peer's OPEN parameters, as far as a session keeps them (RFC 4271, section 4.2; RFC 5492).
 use Rattle.std.specs.Prelude.{ℕ, Bool, false, ◌&&◌, ◌||◌, ◌==◌, List, [], ◌∷◌, Option, None, Some, unwrap_or}
 use Rattle.std.specs.List.{filter, list_any, range_with_len}
 use Rattle.std.specs.Option.{option_or}
@@ -23,11 +23,11 @@ abbrev pub is_unicast : ℕ → Capability → Bool
 is_unicast family (Multi f subsequent) = (f == family) && (subsequent == UNICAST)
 is_unicast family _ = false
 
--- which codes the capabilities have
+-- the codes of the capabilities
 abbrev pub codes_of : List Capability → ℕ → Bool
 codes_of caps = λ code. list_any (λ c. code == code_of c) caps
 
--- the octets that pass a test, rising
+-- the octets that pass a test, ascending
 unfoldable pub rising : (ℕ → Bool) → List ℕ
 rising test = filter test (range_with_len 0 256)
 
@@ -66,23 +66,23 @@ told_by o = record {
 abbrev pub told_of : Peer → Told
 told_of p = record { as_field = p.as_field; as4 = p.as4; id = p.id; hold = p.hold; ip4 = p.ip4; ip6 = p.ip6; codes = has_octet p.codes }
 
--- the codes of the test, rising
+-- the codes that pass the test, ascending
 abbrev pub said_with : Told → Said
 said_with p = record { as_field = p.as_field; as4 = p.as4; id = p.id; hold = p.hold; ip4 = p.ip4; ip6 = p.ip6; codes = rising p.codes }
 
--- what an OPEN says
+-- the OPEN parameters of its sender
 abbrev pub said_by : Open → Said
 said_by o = said_with (told_by o)
 
--- what a record keeps
+-- those that a `Peer` keeps
 abbrev pub said_of : Peer → Said
 said_of p = said_with (told_of p)
 
--- the AS number of a speaker: that number, else its My Autonomous System (RFC 6793, section 4.1)
+-- the AS number of a speaker: that of four octets, else its My Autonomous System (RFC 6793, section 4.1)
 abbrev pub number_of : Said → ℕ
 number_of p = unwrap_or p.as4 p.as_field
 
--- ---- how it is found: from nothing that is offered, capability by capability
+-- ---- how they are collected: from nothing offered, capability by capability
 
 abbrev pub plain : ℕ → ℕ → List ℕ → Told
 plain as_field hold id = record { as_field = as_field; as4 = None; id = id; hold = hold; ip4 = false; ip6 = false; codes = none_of_them }

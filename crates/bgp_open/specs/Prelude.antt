@@ -1,4 +1,4 @@
--- The names that other crates and the proofs cite, passed on from one place. Declares nothing.
+-- Re-exports the names that other crates and the proofs cite. Declares nothing.
 pub use Rattle.bgp_open.specs.Capability.{IsCapability, as4_of, capability_of, code_of, multi_of}
 unfoldable pub use Rattle.bgp_open.specs.Capability.{one_capability}
 pub use Rattle.bgp_open.specs.CapabilityView.{capability_value}

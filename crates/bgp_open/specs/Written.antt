@@ -1,4 +1,4 @@
--- The written form of an OPEN: reserved octets 0, all capabilities in one parameter, and none where there are none.
+-- The written form of an OPEN: reserved octets 0, all capabilities in one parameter, and no parameter where there are none.
 use Rattle.std.specs.Prelude.{◌≡◌, ◌<◌, ◌^◌, ◌||◌, ◌==◌, ℕ, Bool, false, nat_lt, List, [], ◌∷◌, ◌++◌, length}
 use Rattle.std.specs.List.{flat_map, list_any, AllByRecursion}
 use Rattle.std.specs.Int.{w16, w32, to_be_bytes}
@@ -20,7 +20,7 @@ capability_octets (Other code value) = code ∷ length value ∷ value
 abbrev pub row_octets : List Capability → List ℕ
 row_octets caps = flat_map capability_octets caps
 
--- the parameter that holds a row of capabilities. A row without octets has none: each capability has two or more
+-- the parameter that holds a row of capabilities. None for a row without octets: each capability has at least two
 abbrev pub parameter_octets : List ℕ → List ℕ
 parameter_octets [] = []
 parameter_octets (octet ∷ row) = CAPABILITIES ∷ length (octet ∷ row) ∷ octet ∷ row
@@ -33,16 +33,16 @@ body_octets as_field hold id row =
 abbrev pub canonical : Open → List ℕ
 canonical o = body_octets o.as_field o.hold o.id (row_octets o.caps)
 
--- another capability under the code of one that has a meaning here
+-- a capability of unknown meaning under a code whose meaning is known here
 abbrev pub is_misnamed : Capability → Bool
 is_misnamed (Other code value) = (code == MULTIPROTOCOL) || (code == FOUR_OCTET_AS)
 is_misnamed _ = false
 
--- capabilities that one parameter can't hold, since its length and its own two octets stand in one octet of length, or that would be read as others
+-- capabilities that don't fit one parameter, since one octet counts their length and the parameter's own two octets, or that would be read as others
 abbrev pub is_bad_row : List Capability → Bool
 is_bad_row caps = nat_lt 253 (length (row_octets caps)) || list_any is_misnamed caps
 
--- what isn't written
+-- an OPEN that isn't written
 abbrev pub is_bad : Open → Bool
 is_bad o = is_short_hold o.hold || (is_zero_id o.id || is_bad_row o.caps)
 

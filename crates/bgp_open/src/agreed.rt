@@ -1,4 +1,4 @@
-//! What two speakers agree on, by what both said of themselves.
+//! What two speakers agree on, by the OPEN parameters of both.
 
 ghost use Rattle.std.specs.Prelude.{◌≡◌};
 ghost use Rattle.bgp_open.specs.Prelude.{agreed_with, is_one_as, said_of};
@@ -7,7 +7,7 @@ use crate::context::Context;
 use crate::peer::Peer;
 use bgp_numbers::AS_TRANS;
 
-/// Whether both are in one AS. Where one speaker alone has AS numbers of four octets, the other knows it by its My Autonomous System
+/// Whether both are in one AS. Where only one speaker has AS numbers of four octets, the other knows it by its My Autonomous System
 /// (RFC 6793, section 4.1).
 fn is_one_as(ours: &Peer, theirs: &Peer) -> bool
     ensures { result ≡ is_one_as (said_of ours.now) (said_of theirs.now) }

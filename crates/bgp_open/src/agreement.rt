@@ -25,14 +25,14 @@ impl PeerFault {
     ghost use Rattle.bgp_frame.specs.Notification.{notification_of_view};
     ghost use Rattle.bgp_open.specs.Agreement.{peer_notification};
 
-    /// The answer to the fault, of code 2 (OPEN Message Error), without information.
+    /// The NOTIFICATION of the fault, of code 2 (OPEN Message Error), without data.
     pub fn notification(self) -> Notification
         ensures { result ≡ peer_notification self }
     {
         self.answer().own()
     }
 
-    /// The same, in some words.
+    /// The fault in words.
     pub fn answer(self) -> NotificationView<'static>
         ensures { notification_of_view result ≡ peer_notification self }
     {
@@ -43,7 +43,7 @@ impl PeerFault {
     }
 }
 
-/// What the speaker agrees on with a peer that said this of itself.
+/// What the speaker agrees on with a peer of these OPEN parameters.
 ///
 /// # Errors
 /// The first [`PeerFault`] that applies.

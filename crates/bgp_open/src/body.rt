@@ -6,8 +6,8 @@ ghost use Rattle.bgp_open.specs.Prelude.{body_octets};
 use arrayvec::ArrayVec;
 use bgp_numbers::{VERSION, parameter};
 
-/// The body of an OPEN (RFC 4271, section 4.2) with these fixed fields, and this row of capabilities in one parameter where there are any. It takes
-/// no memory.
+/// The body of an OPEN (RFC 4271, section 4.2) with these fixed fields, and this row of capabilities, unless it is empty, in one
+/// parameter. It allocates nothing.
 pub fn open_body(as_field: u16, hold: u16, id: [u8; 4], row: &[u8]) -> ArrayVec<u8, 265>
     requires { length row.now ≤ 253 }
     ensures octets { result.items ≡ body_octets as_field hold id row.now }

@@ -7,14 +7,14 @@ use crate::capability_view::CapabilityView;
 use bgp_wire::{List, TryCopy};
 use std::alloc::{AllocError, Global};
 
-/// What a speaker says it can do (RFC 5492, section 4).
+/// What a speaker advertises that it can do (RFC 5492, section 4).
 #[derive(Drop, PartialEq)]
 pub enum Capability {
     /// Routes of this address family and subsequent address family (RFC 4760, section 8).
     Multi(u16, u8),
     /// AS numbers of four octets, and the speaker's own one (RFC 6793, sections 3 and 4.1).
     As4(u32),
-    /// Any other code, with the octets of its value: it is kept and has no effect.
+    /// Any other code, with the octets of its value: kept, without effect.
     Other(u8, List<u8>),
 }
 

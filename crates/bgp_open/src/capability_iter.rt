@@ -14,12 +14,12 @@ use bgp_wire::List;
 use std::alloc::{AllocError, Global};
 use std::iter::FusedIterator;
 
-/// The capabilities of an OPEN in their order, however they are grouped into parameters (RFC 5492, section 4). It takes no memory.
+/// The capabilities of an OPEN in their order, however they are grouped into parameters (RFC 5492, section 4). It allocates nothing.
 #[derive(Clone, Copy)]
 pub struct CapabilityIter<'a> {
     /// What is left of the parameter that was begun.
     begun: &'a [u8],
-    /// The parameters behind it.
+    /// The parameters after it.
     later: &'a [u8],
 }
 
@@ -35,7 +35,7 @@ impl<'a> CapabilityIter<'a> {
         }
     }
 
-    /// The capabilities of this row, which stands in no parameter.
+    /// The capabilities of this row, which is in no parameter.
     #[tactic(auto, using(crate::proofs::CapabilityIters::nothing_later))]
     pub(crate) fn of_row(row: &'a [u8]) -> CapabilityIter<'a>
         ensures { capabilities_left result ≡ (pieces one_capability row.now).0 }
@@ -60,7 +60,7 @@ impl<'a> CapabilityIter<'a> {
         Ok(caps)
     }
 
-    /// The first capability of the parameters behind the one that was begun: empty ones are passed.
+    /// The first capability of the parameters after the one that was begun: empty ones are skipped.
     fn begin(&mut self) -> Option<CapabilityView<'a>>
         ensures { MatchOption result ((capabilities_of self.old.later.now ≡ []) × (capabilities_left self.new ≡ []))
             (λ c. capabilities_of self.old.later.now ≡ capability_value c ∷ capabilities_left self.new) }

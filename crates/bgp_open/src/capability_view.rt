@@ -1,4 +1,4 @@
-//! Capabilities that still lie in the octets that were read.
+//! Capabilities borrowed from the octets read.
 
 ghost use Rattle.std.specs.Prelude.{◌≡◌, option_map, IfOk};
 ghost use Rattle.bgp_open.specs.Prelude.{capability_of, code_of, one_capability, capability_value};

@@ -1,4 +1,4 @@
-//! What a speaker is set to.
+//! The settings of a speaker.
 
 use crate::field::{is_short_hold, is_wide, is_zero_id};
 use std::marker::Model;
@@ -18,12 +18,12 @@ pub enum BadConfig {
     AsWidth,
 }
 
-/// What a speaker is to be set to, by names: a [`Config`] is one of these that was accepted.
+/// The settings of a speaker by names: a [`Config`] is one of these that was accepted.
 #[derive(Clone, Copy, Debug, PartialEq, Eq)]
 pub struct Speaker {
     /// Its own AS number.
     pub local_as: u32,
-    /// The AS number that the peer has to have.
+    /// The AS number that the peer must have.
     pub peer_as: u32,
     /// Its BGP Identifier.
     pub id: [u8; 4],
@@ -37,7 +37,7 @@ pub struct Speaker {
     pub ip6: bool,
 }
 
-/// What one speaker of a session is set to.
+/// The settings of one speaker of a session.
 #[derive(Clone, Copy, Debug, PartialEq, Eq)]
 pub struct Config {
     local_as: u32,
@@ -65,7 +65,7 @@ impl Config {
     ghost use Rattle.std.specs.Prelude.{◌≡◌, length};
     ghost use Rattle.bgp_open.specs.Config.{IsAllowed, config_of};
 
-    /// A speaker with these AS numbers, of itself and of its peer, this BGP Identifier and Hold Time in seconds, which offers
+    /// A speaker with these AS numbers, its own and its peer's, this BGP Identifier and Hold Time in seconds, which offers
     /// AS numbers of four octets, IPv4 unicast and IPv6 unicast where `as4`, `ip4` and `ip6` are set.
     ///
     /// # Errors
@@ -107,7 +107,7 @@ impl Config {
         })
     }
 
-    /// As [`new`](Config::new), from values with names.
+    /// As [`new`](Config::new), from named values.
     ///
     /// # Errors
     /// The first [`BadConfig`] that applies.
@@ -133,7 +133,7 @@ impl Config {
         self.local_as
     }
 
-    /// The AS number that the peer has to have.
+    /// The AS number that the peer must have.
     pub fn peer_as(&self) -> u32
         ensures { result ≡ self.now.peer_as }
     {

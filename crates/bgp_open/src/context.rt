@@ -1,6 +1,6 @@
 //! What a session negotiated.
 
-/// What both speakers of a session do, and how long they wait for each other. Every combination is allowed.
+/// What both speakers of a session offer, and the Hold Time. Every combination is allowed.
 #[derive(Clone, Copy, Debug, PartialEq, Eq)]
 pub struct Context {
     /// Both have the same AS number.

@@ -1,4 +1,4 @@
-//! Why the body of an OPEN isn't read.
+//! Why the body of an OPEN is refused.
 
 ghost use Rattle.std.specs.Prelude.{◌≡◌, ◌≤◌, length, option_map};
 ghost use Rattle.bgp_open.specs.declared.fault.OpenFault.TheVariants.{Memory};
@@ -10,7 +10,7 @@ use bgp_numbers::{VERSION, error};
 use std::alloc::AllocError;
 
 /// The first fault of the body of an OPEN (RFC 4271, section 6.2), or an allocation that failed. The order of the tests is our own: the version;
-/// the length of the parameters; the first parameter that isn't read, where it is asked whether it is cut off, then for its type, then
+/// the length of the parameters; the first parameter that isn't read, which is tested for being cut off, then for its type, then
 /// for its capabilities; the Hold Time; the identifier.
 #[derive(Clone, Copy, Debug, PartialEq, Eq)]
 pub enum OpenFault {
@@ -18,7 +18,7 @@ pub enum OpenFault {
     Version,
     /// The parameters don't fill their length; or one is cut off, whatever its type; or a capability is cut off or of a wrong length.
     Parameter,
-    /// A whole parameter is of a type other than 2.
+    /// A complete parameter is of a type other than 2.
     UnknownParameter,
     /// The Hold Time is 1 or 2.
     Hold,
@@ -28,10 +28,10 @@ pub enum OpenFault {
     Memory,
 }
 
-/// The version that is spoken here, as the information of an answer.
+/// The version supported here, as the data of a NOTIFICATION.
 const SPOKEN: [u8; 2] = [0, VERSION];
 
-/// An answer of code 2, OPEN Message Error (RFC 4271, section 6.2).
+/// A NOTIFICATION of code 2, OPEN Message Error (RFC 4271, section 6.2).
 pub(crate) fn open_error(subcode: u8, info: &[u8]) -> NotificationView<'_>
     requires { length info.now ≤ 4075 }
     ensures { notification_of_view result ≡ open_error subcode info.entry.now }
@@ -44,14 +44,14 @@ pub(crate) fn open_error(subcode: u8, info: &[u8]) -> NotificationView<'_>
 }
 
 impl OpenFault {
-    /// The answer to the fault, of code 2 (OPEN Message Error): none where memory ran out.
+    /// The NOTIFICATION of the fault, of code 2 (OPEN Message Error): none where memory ran out.
     pub fn notification(self) -> Option<Notification>
         ensures { result ≡ open_notification self }
     {
         Some(self.answer()?.own())
     }
 
-    /// The same, with its information borrowed.
+    /// The same, with its data borrowed.
     pub fn answer(self) -> Option<NotificationView<'static>>
         ensures { option_map notification_of_view result ≡ open_notification self }
     {

@@ -1,4 +1,4 @@
-//! Tests of what stands in the fields of an OPEN.
+//! Tests of the fields of an OPEN.
 
 ghost use Rattle.std.specs.Prelude.{◌≡◌};
 ghost use Rattle.bgp_open.specs.Prelude.{is_short_hold, is_wide, is_zero_id};

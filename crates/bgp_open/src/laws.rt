@@ -7,22 +7,22 @@ ghost use Rattle.bgp_open.specs.declared.message.Open.{Open};
 ghost use Rattle.bgp_open.specs.Prelude.{canonical, is_bad, HasRanges, Settings, IsAllowed, own_of, agreement, IsCapability, one_capability, IsParameter, one_parameter, open_fault, reading_of, HasValueOrFault};
 ghost use Rattle.bgp_open.specs.declared.context.Context.{Context};
 
-/// No capability begins another one, and the octets of each have one meaning (RFC 5492, section 4).
+/// No capability is the beginning of another, and the octets of each have one meaning (RFC 5492, section 4).
 pub fn capabilities_are_prefix_free()
     ensures { IsPrefixFree IsCapability }
 {}
 
-/// The reader of capabilities finds each one that stands at the front, and nothing else.
+/// The reader of capabilities finds each one at the front of octets, and nothing else.
 pub fn readings_are_capabilities()
     ensures { Reads IsCapability one_capability }
 {}
 
-/// No parameter begins another one, and the octets of each hold one list of capabilities (RFC 4271, section 4.2).
+/// No parameter is the beginning of another, and the octets of each hold one list of capabilities (RFC 4271, section 4.2).
 pub fn parameters_are_prefix_free()
     ensures { IsPrefixFree IsParameter }
 {}
 
-/// The reader of parameters finds each one that stands at the front, and nothing else.
+/// The reader of parameters finds each one at the front of octets, and nothing else.
 pub fn readings_are_parameters()
     ensures { Reads IsParameter one_parameter }
 {}
@@ -34,12 +34,12 @@ pub fn parameters_split_in_one_way()
         → Splits IsParameter b parameters rest → pieces one_parameter b ≡ (parameters, rest) }
 {}
 
-/// Each body of at least ten octets is the spelling of one OPEN and has no fault, or has a fault and spells none.
+/// Each body of at least ten octets spells one OPEN and has no fault, or has a fault and spells none.
 pub fn an_open_has_one_reading()
     ensures { (body : List ℕ) → 10 ≤ length body → HasValueOrFault body (open_fault body) }
 {}
 
-/// What is written of an OPEN that isn't bad is read as this OPEN.
+/// The body that is written for an OPEN that isn't bad is read as this OPEN.
 pub fn a_written_open_is_read_back()
     ensures { (o : Open) → HasRanges o → is_bad o ≡ false → reading_of (canonical o) ≡ Ok o }
 {}

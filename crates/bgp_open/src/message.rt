@@ -8,10 +8,10 @@ use crate::peer::Peer;
 use bgp_wire::List;
 use std::alloc::{AllocError, Global};
 
-/// What an OPEN of version 4 says (RFC 4271, section 4.2).
+/// The fields of an OPEN of version 4 (RFC 4271, section 4.2).
 #[derive(Drop, PartialEq)]
 pub struct Open {
-    /// My Autonomous System: the sender's AS number, or 23456 where that has more than two octets (RFC 6793, section 4.1).
+    /// My Autonomous System: the sender's AS number, or 23456 where that needs four octets (RFC 6793, section 4.1).
     pub as_field: u16,
     /// Hold Time in seconds: 0 for none, and never 1 or 2 in what is read.
     pub hold: u16,
@@ -22,7 +22,7 @@ pub struct Open {
 }
 
 impl Open {
-    /// What it tells of the speaker that sends it.
+    /// The OPEN parameters of its sender.
     pub fn peer(&self) -> Peer
         ensures { said_of result ≡ said_by self.now }
     {

@@ -1,4 +1,4 @@
-//! An OPEN that still lies in the octets that were read.
+//! An OPEN borrowed from the octets read.
 
 ghost use Rattle.std.specs.Prelude.{◌≡◌, ◌≤◌, None, length, IfOk};
 ghost use Rattle.bgp_open.specs.OpenFault.{open_fault, open_of};
@@ -30,7 +30,7 @@ impl<'a> OpenView<'a> {
         OpenView { body }
     }
 
-    /// My Autonomous System: the sender's AS number, or 23456 where that has more than two octets (RFC 6793, section 4.1).
+    /// My Autonomous System: the sender's AS number, or 23456 where that needs four octets (RFC 6793, section 4.1).
     pub fn as_field(&self) -> u16
         ensures { result ≡ (open_value self.now).as_field }
     {
@@ -58,7 +58,7 @@ impl<'a> OpenView<'a> {
         CapabilityIter::new(&self.body[10..])
     }
 
-    /// What the OPEN tells of the speaker that sent it.
+    /// The OPEN parameters of its sender.
     pub fn peer(&self) -> Peer
         ensures { said_of result ≡ said_by (open_value self.now) }
     {

@@ -1,4 +1,4 @@
-//! What a speaker says of itself.
+//! A speaker's own OPEN.
 
 ghost use Rattle.std.specs.Prelude.{◌≡◌, IfOk};
 ghost use Rattle.bgp_frame.specs.Prelude.{IsFrame};
@@ -36,7 +36,7 @@ fn as_field(number: u32) -> u16
 pub fn own_open(alloc: Global, config: &Config) -> Result<Open, AllocError>
     ensures { IfOk result (λ o. o ≡ own_of config.now) }
 {
-    // What is offered is said once, by the row that is sent; here it is read.
+    // What is offered is defined once, by the row that is sent; here it is read.
     let caps = CapabilityIter::of_row(&offered_row(config)).own(alloc)?;
     Ok(Open {
         as_field: as_field(config.local_as()),
@@ -66,7 +66,7 @@ fn offered_row(config: &Config) -> ArrayVec<u8, 253>
 /// The whole message of a speaker's OPEN, header and body, without memory.
 pub fn own_frame(config: &Config) -> ArrayVec<u8, 49>
     ensures framed { IsFrame (record { kind = kind.Open; body = canonical (own_of config.now) }) result.items }
-    // The body spells what the speaker says of itself.
+    // The body spells the speaker's own OPEN.
     ensures spelled { IsOpen (own_of config.now) (canonical (own_of config.now)) }
 {
     let row = offered_row(config);

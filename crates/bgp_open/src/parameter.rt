@@ -1,4 +1,4 @@
-//! Optional parameters as they lie in the octets that were read.
+//! Optional parameters in the octets read.
 
 ghost use Rattle.std.specs.Prelude.{◌≡◌, ◌==◌, length, option_map};
 ghost use Rattle.bgp_wire.specs.Prelude.{pieces};
@@ -33,7 +33,7 @@ pub fn first_parameter(octets: &[u8]) -> Option<(&[u8], &[u8])>
     Some((value, rest))
 }
 
-/// The fault of what is left behind the last parameter.
+/// The fault of what is left after the last parameter.
 fn rest_fault(rest: &[u8]) -> Option<OpenFault>
     ensures { result ≡ rest_fault rest.now }
 {

@@ -10,7 +10,7 @@ use bgp_numbers::{afi, capability, safi};
 /// What a speaker does with path identifiers.
 #[derive(Clone, Copy)]
 pub(crate) enum Role {
-    /// It reads them.
+    /// It receives them.
     Reads,
     /// It sends them.
     Sends,
@@ -23,7 +23,7 @@ fn is_role(code: u8) -> bool
     code == 1 || code == 2 || code == 3
 }
 
-/// Whether a Send/Receive says that its speaker does this.
+/// Whether a Send/Receive gives its speaker this role.
 fn does(role: Role, code: u8) -> bool
     ensures { result ≡ does role code }
 {
@@ -47,7 +47,7 @@ fn is_path_row(value: &[u8]) -> bool
     rest.is_empty()
 }
 
-/// Whether a speaker does this with unicast routes of a family.
+/// Whether a row gives its speaker this role for unicast routes of a family.
 fn has_role(role: Role, family: u16, value: &[u8]) -> bool
     ensures { result ≡ has_role role family value.now }
 {
@@ -62,7 +62,7 @@ fn has_role(role: Role, family: u16, value: &[u8]) -> bool
     false
 }
 
-/// Whether a capability says so.
+/// Whether a capability gives its speaker this role.
 fn offers_role(role: Role, family: u16, offered: &Capability) -> bool
     ensures { result ≡ offers_role role family offered.now }
 {
@@ -74,7 +74,7 @@ fn offers_role(role: Role, family: u16, offered: &Capability) -> bool
     }
 }
 
-/// Whether an OPEN says so.
+/// Whether an OPEN gives its speaker this role.
 fn takes_role(role: Role, family: u16, sender: &Open) -> bool
     ensures { result ≡ takes_role role family sender.now }
 {
@@ -84,15 +84,15 @@ fn takes_role(role: Role, family: u16, sender: &Open) -> bool
         .any(|offered| offers_role(role, family, offered))
 }
 
-/// Whether unicast routes of a family have identifiers in what one speaker sends the other.
+/// Whether unicast routes of a family have path identifiers in this direction.
 fn has_paths(family: u16, sender: &Open, reader: &Open) -> bool
     ensures { result ≡ has_paths family sender.now reader.now }
 {
     takes_role(Role::Sends, family, sender) && takes_role(Role::Reads, family, reader)
 }
 
-/// Whether routes have path identifiers in what one speaker sends the other, by the OPENs of both: of IPv4 unicast, or of IPv6 unicast where both offer
-/// it (RFC 7911, sections 3 and 4). No call here reads such routes.
+/// Whether routes have path identifiers in this direction, by the OPENs of both: those of IPv4 unicast, or those of IPv6 unicast where both
+/// offer it (RFC 7911, sections 3 and 4). No call here reads such routes.
 pub fn agree_on_paths(sender: &Open, reader: &Open) -> bool
     ensures { result ≡ agree_on_paths sender.now reader.now }
 {

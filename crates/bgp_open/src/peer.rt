@@ -1,4 +1,4 @@
-//! What is kept of a peer's OPEN.
+//! The peer's OPEN parameters.
 
 ghost use Rattle.std.specs.Prelude.{◌≡◌};
 ghost use Rattle.bgp_open.specs.Prelude.{is_unicast, capability_value};
@@ -7,11 +7,11 @@ use crate::capability_view::CapabilityView;
 use bgp_numbers::{afi, safi};
 use bgp_wire::OctetSet;
 
-/// What an OPEN tells of the speaker that sent it: all but the values of capabilities that have no effect here (RFC 4271, section 4.2).
-/// It takes no memory, and stays when the octets are gone.
+/// The OPEN parameters of a speaker: all but the values of capabilities that have no effect here (RFC 4271, section 4.2).
+/// It allocates nothing, and borrows nothing from the octets.
 #[derive(Clone, Copy)]
 pub struct Peer {
-    /// My Autonomous System, as it stands in the OPEN.
+    /// My Autonomous System, as it is in the OPEN.
     pub as_field: u16,
     /// The number of the first capability for AS numbers of four octets, where there is one (RFC 6793, section 3).
     pub as4: Option<u32>,
@@ -56,7 +56,7 @@ impl Peer {
         }
     }
 
-    /// It offers this too.
+    /// Adds what the capability offers.
     pub(crate) fn offer(&mut self, capability: CapabilityView<'_>)
         ensures { told_of self.new ≡ also_offers (told_of self.old) (capability_value capability.entry) }
     {

@@ -38,10 +38,10 @@ fn open_fault(body: &[u8]) -> Option<OpenFault>
     None
 }
 
-/// The view of the body of an OPEN: the octets behind the header, of which a whole OPEN has at least 10. It takes no memory.
+/// The view of the body of an OPEN: the octets after the header, at least 10 in a complete OPEN. It allocates nothing.
 ///
 /// # Errors
-/// The first fault, by the tests in the order that [`OpenFault`] tells; never `Memory`.
+/// The first fault, by the tests in the order of [`OpenFault`]; never `Memory`.
 pub fn view_open(body: &[u8]) -> Result<OpenView<'_>, OpenFault>
     requires { 10 ≤ length body.now }
     ensures value { IsViewedAs result (reading_of body.entry.now) }
@@ -63,17 +63,17 @@ fn reading(alloc: Global, body: &[u8]) -> Result<Open, OpenFault>
     Ok(view.own(alloc)?)
 }
 
-/// Reads the body of an OPEN (RFC 4271, section 4.2): the octets behind the header, of which a whole OPEN has at least 10.
+/// Reads the body of an OPEN (RFC 4271, section 4.2): the octets after the header, at least 10 in a complete OPEN.
 ///
 /// # Errors
-/// The first fault, by the tests in the order that [`OpenFault`] tells; `Memory` only where there is none and an allocation failed.
+/// The first fault, by the tests in the order of [`OpenFault`]; `Memory` only where there is none and an allocation failed.
 pub fn read_open(alloc: Global, body: &[u8]) -> Result<Open, OpenFault>
     requires { 10 ≤ length body.now }
-    // What is read is spelled so.
+    // What is read is spelled by the body.
     ensures found { IfOk result (λ o. IsOpen o body.now) }
-    // What is spelled so is read, unless memory runs out.
+    // Each OPEN that the body spells is read, unless memory runs out.
     ensures only { (o : Open) → IsOpen o body.now → IsReadAs result (Ok o) }
-    // Which fault it is, and that memory runs out only where there is a value.
+    // Which fault is the first, and that memory runs out only where there is a value.
     ensures exact { IsReadAs result (reading_of body.now) }
 {
     reading(alloc, body)

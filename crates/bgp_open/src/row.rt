@@ -21,7 +21,7 @@ fn is_misnamed(capability: &Capability) -> bool
     }
 }
 
-/// Adds a capability at the end, where there is room.
+/// Appends a capability, where there is room.
 pub(crate) fn put(capability: &Capability, row: &mut ArrayVec<u8, 253>) -> bool
     ensures room { IsTrue result ↔ (length row.old.items + length (capability_octets capability.now) ≤ 253) }
     ensures added { OnTrue result (row.new.items ≡ row.old.items ++ capability_octets capability.now) }
@@ -49,7 +49,7 @@ pub(crate) fn put(capability: &Capability, row: &mut ArrayVec<u8, 253>) -> bool
     }
 }
 
-/// The octets of capabilities that can stand in one parameter, and are read as themselves.
+/// The octets of capabilities that fit in one parameter, and are read as themselves.
 pub(crate) fn row_of(caps: &[Capability]) -> Option<ArrayVec<u8, 253>>
     ensures none { IsNone result ↔ IsTrue (is_bad_row caps.now) }
     ensures octets { IfSome result (λ row. row.items ≡ row_octets caps.now) }

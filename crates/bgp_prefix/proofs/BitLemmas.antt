@@ -167,7 +167,7 @@ address_of-first width l addr wide le octets =
 pub address_of-take : (width l : ℕ) (addr : List ℕ) → length addr ≡ width → l ≤ 8 * width → AreOctets addr → leading_bits l addr ≡ addr → address_of width l (take (octets_for l) addr) ≡ addr
 address_of-take width l addr wide le octets whole = address_of-first width l addr wide le octets ∙ whole
 
--- octets behind those are ignored
+-- octets after those are ignored
 pub address_of-chunk : (width l : ℕ) (chunk behind read : List ℕ) → length chunk ≡ width → l ≤ 8 * width → AreOctets chunk → chunk ≡ take width behind → read ≡ take (octets_for l) behind → address_of width l chunk ≡ address_of width l read
 address_of-chunk width l chunk behind read wide le octets front held =
     address_of-whole width l chunk wide ∙ sym (address_of-first width l chunk wide le octets)

@@ -16,7 +16,7 @@ use Rattle.bgp_prefix.proofs.PrefixLemmas.{IsPrefix-reads, IsPrefix-length, IsPr
 
 -- ---- bits
 
--- bit i behind the length octet
+-- bit i of what follows the length octet
 bit_of-behind : (l : ℕ) (read : List ℕ) (i : ℕ) → bit_of (l ∷ read) (8 + i) ≡ bit_of read i
 bit_of-behind l read i =
     let place : (8 + i) / 8 ≡ suc (i / 8) = omega arith in
@@ -71,7 +71,7 @@ module _ (width : ℕ) where
   pub split_is_run : (b : List ℕ) (prefixes : List PrefixValue) (rest : List ℕ) → Splits (IsPrefix width) b prefixes rest → run_of width b ≡ (prefixes, rest)
   split_is_run b prefixes rest s = pieces-Splits PrefixValue (IsPrefix width) (one_prefix width) (IsPrefix-reads width) b prefixes rest s
 
-  -- nothing stands at the front of the rest
+  -- no prefix is at the front of the rest
   stuck_none : (b : List ℕ) (prefixes : List PrefixValue) (rest : List ℕ) → run_of width b ≡ (prefixes, rest) → one_prefix width rest ≡ None
   stuck_none b prefixes rest e =
       ap (λ (q : List PrefixValue × List ℕ). one_prefix width q.1) (sym e) ∙ nothing_at PrefixValue (IsPrefix width) (one_prefix width) (IsPrefix-reads width) b

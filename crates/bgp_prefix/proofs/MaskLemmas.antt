@@ -20,7 +20,7 @@ in_table r k none row octet =
     ap (λ (xs : List ℕ). get_or xs k 0) (get_or-map-range_with_len row_of 0 8 r r none row (omega arith))
     ∙ get_or-map-range_with_len (in_row r) 0 64 k k 0 octet (omega arith)
 
--- a length's masks begin where its row has as many octets less
+-- the masks for l bits begin 32 - l / 8 octets into their row
 pub in_row-of : (l i : ℕ) → l < 256 → i < 32 → in_row (l % 8) ((32 - l / 8) + i) ≡ mask_of l i
 unfolding mask_of
 in_row-of l i small lt = ap (λ (n : ℕ). 256 - 2 ^ (8 - n)) (let same : (256 + l % 8) - 8 * ((32 - l / 8) + i) ≡ l - 8 * i = omega arith in same)

@@ -53,7 +53,7 @@ module _ (width : ℕ) where
     gives = IsPrefix-gives;
   }
 
-  -- ---- what a prefix keeps
+  -- ---- what holds of each prefix
 
   pub prefix_of-valid : (l : ℕ) (b : List ℕ) → l ≤ 8 * width → length b ≡ octets_for l → AreOctets b → IsValid width (prefix_of width l b)
   prefix_of-valid l b allowed least octets =

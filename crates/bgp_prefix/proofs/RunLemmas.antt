@@ -1,4 +1,4 @@
--- Which fault a run has, and that what is written is a row. How a run is gone through, prefix by prefix, stands in `Rattle.bgp_wire.proofs.Walks`.
+-- Which fault a run has, and that what is written is a row. The loops over a run, prefix by prefix, are in `Rattle.bgp_wire.proofs.Walks`.
 use Rattle.bgp_wire.proofs.Std.{◌≡◌, ℕ, ◌*◌, Bool, true, false, cond, ltb, List, [], ◌∷◌, Some, None, Err, refl, sym, ap, flat_map, slice_get, AllByRecursion}
 use Rattle.bgp_wire.specs.Prelude.{Row}
 use Rattle.bgp_prefix.specs.declared.fault.RunFault.{RunFault}
@@ -8,7 +8,7 @@ use Rattle.bgp_prefix.proofs.PrefixLemmas.{IsPrefix-spelling_of}
 
 -- ---- reading
 
--- only the two faults of octets are a fault of the rest
+-- only the two faults of octets are faults of the rest
 is_fault : (width : ℕ) (octets : List ℕ) (t : Bool) (fault : RunFault) → fault ≡ cond t TooLong PastEnd → run_fault width (run_of width octets).1 ≡ Some (cond t TooLong PastEnd) → IsReading width octets (Err fault)
 is_fault width octets true TooLong e r = r
 is_fault width octets true PastEnd e r = absurd cc

@@ -1,4 +1,4 @@
--- Prefixes that are written as they lie in octets.
+-- Prefixes that are written as they are in octets.
 use Rattle.bgp_wire.proofs.Std.{◌≡◌, ℕ, ◌+◌, ◌-◌, ◌*◌, ◌<◌, ◌≤◌, List, [], ◌∷◌, ◌++◌, length, take, replicate, refl, sym, ap, ap₂, ◌∙◌, append_assoc, arith, take-append_seam}
 use Rattle.std.specs.Int.Bits.{bit_and}
 use Rattle.std.proofs.lemmas.List.{length-append}
@@ -15,7 +15,7 @@ leading_bits_all : (b : List ℕ) (l : ℕ) → 8 * length b ≤ l → leading_b
 leading_bits_all [] l le = refl
 leading_bits_all (x ∷ b) l le = ap₂ ◌∷◌ (first_bits_all l x (omega (arith, le))) (leading_bits_all b (l - 8) (omega (arith, le)))
 
--- the octets that a prefix is written in are those that were read, with 0 for the bits past the length
+-- the octets that are written for a prefix are those that were read, with 0 for the bits past the length
 pub written_front : (width l : ℕ) (read : List ℕ) → length read ≡ octets_for l → spelling_of (prefix_of width l read) ≡ l ∷ leading_bits l read
 unfolding spelling_of address_of
 written_front width l read held =
@@ -46,7 +46,7 @@ pub clear_front : (l : ℕ) (read whole : List ℕ) (last : ℕ) → length read
 clear_front l read whole last held are small same =
     sym (last_cleared l read whole last held are small) ∙ ap (λ (x : ℕ). whole ++ x ∷ []) same ∙ sym are
 
--- what is read of octets that begin with such a front is written as it lies there
+-- what is read from octets that begin with such a prefix is written as it is there
 pub clear_more : (width l : ℕ) (read after octets : List ℕ) → length read ≡ octets_for l → leading_bits l read ≡ read → octets ≡ l ∷ (read ++ after)
     → spelling_of (prefix_of width l read) ++ after ≡ octets
 clear_more width l read after octets held clear are =

@@ -10,7 +10,7 @@ octets_for l = (l + 7) / 8
 abbrev pub bit_of : List ℕ → ℕ → ℕ
 bit_of b i = bit_at (slice_index b (i / 8)) (7 - i % 8)
 
--- no bit from place l on is set
+-- no bit from position l on is set
 abbrev pub HasNoBitPast : ℕ → List ℕ → Type 0
 HasNoBitPast l b = (i : ℕ) → l ≤ i → bit_of b i ≡ 0
 

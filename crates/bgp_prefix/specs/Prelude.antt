@@ -1,4 +1,4 @@
--- The names that other crates and the proofs cite, passed on from one place. Declares nothing.
+-- Re-exports the names that other crates and the proofs cite. Declares nothing.
 pub use Rattle.bgp_prefix.specs.Bits.{HasNoBitPast, bit_of, leading_bits, octets_for}
 unfoldable pub use Rattle.bgp_prefix.specs.Bits.{address_of, first_bits}
 pub use Rattle.bgp_prefix.specs.Prefix.{HasFirstBits, IsPrefix, IsValid, PrefixValue, prefix_of}

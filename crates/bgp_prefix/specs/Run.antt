@@ -9,17 +9,17 @@ use Rattle.bgp_prefix.specs.Prefix.{PrefixValue, one_prefix}
 abbrev pub run_of : ℕ → List ℕ → List PrefixValue × List ℕ
 run_of width b = pieces (one_prefix width) b
 
--- why no prefix stands where a length does: the address hasn't as many bits, or the octets end too early
+-- why no prefix begins with this length: it is longer than an address, or the octets end too early
 abbrev pub fault_at : ℕ → ℕ → RunFault
 fault_at width l = if nat_lt (8 * width) l then TooLong else PastEnd
 
--- what is wrong with the rest, where there is one
+-- the fault of the rest, unless it is empty
 abbrev pub run_fault : ℕ → List ℕ → Option RunFault
 run_fault width [] = None
 run_fault width (l ∷ rest) = Some (fault_at width l)
 
--- What a call that reads octets as a run may answer: all the prefixes where nothing is left, else the fault of what is
--- left; that there was no memory only where there is a prefix, since nothing else takes any.
+-- The possible results of a call that reads octets as a run: all the prefixes where nothing is left, else the fault of what
+-- is left. Memory fails only where there is a prefix, since nothing else allocates.
 abbrev pub IsReading : ℕ → List ℕ → Result (List PrefixValue) RunFault → Type 0
 IsReading width b (Ok prefixes) = run_of width b ≡ (prefixes, [])
 IsReading width b (Err TooLong) = run_fault width (run_of width b).1 ≡ Some TooLong

@@ -9,7 +9,7 @@ ipv4_address_text addr =
     decimal (slice_index addr 0) ++ (codes "." ++ (decimal (slice_index addr 1) ++ (codes "."
     ++ (decimal (slice_index addr 2) ++ (codes "." ++ decimal (slice_index addr 3))))))
 
--- an address, and the length behind a slash, as in 10.0.0.0/8
+-- an address, and the length after a slash, as in 10.0.0.0/8
 abbrev pub ipv4_text : PrefixValue → List ℕ
 ipv4_text p = ipv4_address_text p.addr ++ (codes "/" ++ decimal p.len)
 
@@ -30,6 +30,6 @@ groups_text addr i =
 unfoldable pub ipv6_address_text : List ℕ → List ℕ
 ipv6_address_text addr = groups_text addr 0 ++ (codes ":" ++ groups_text addr 4)
 
--- an address, and the length behind a slash
+-- an address, and the length after a slash
 abbrev pub ipv6_text : PrefixValue → List ℕ
 ipv6_text p = ipv6_address_text p.addr ++ (codes "/" ++ decimal p.len)

@@ -1,3 +1,3 @@
--- What only private functions cite: steps of proofs, which nobody has to believe.
+-- Definitions that only private functions cite: steps of proofs, which nobody has to trust.
 pub mod Half
 pub mod Mask

@@ -7,7 +7,7 @@ use std::alloc::{AllocError, Global};
 #[derive(Clone, Copy, Debug, PartialEq, Eq, PartialOrd, Ord)]
 pub struct AsNumber(pub u32);
 
-/// What stands for a number above 65535 where there are two octets for it (RFC 6793, section 9).
+/// The number in a field of two octets instead of one above 65535 (RFC 6793, section 9).
 pub const AS_TRANS: AsNumber = AsNumber(bgp_numbers::AS_TRANS as u32);
 
 impl TryCopy for AsNumber {

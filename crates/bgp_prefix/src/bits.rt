@@ -25,7 +25,7 @@ pub(crate) fn is_allowed<const W: usize>(len: u8) -> bool
 pub(crate) fn address<const W: usize>(len: u8, octets: &[u8]) -> [u8; W]
     requires { length octets.now ≤ W }
     ensures value { result ≡ address_of W len octets.now }
-    // A caller that holds an array learns here what its elements are.
+    // Tells the proof of the caller, which holds an array, what its elements are.
     ensures octets { AreOctets octets.now }
 {
     let masks = masks::<W>(len);
@@ -36,7 +36,7 @@ pub(crate) fn address<const W: usize>(len: u8, octets: &[u8]) -> [u8; W]
     addr
 }
 
-/// Whether no bit of an address from place `len` on is set.
+/// Whether no bit of an address from position `len` on is set.
 pub(crate) fn is_clear<const W: usize>(len: u8, addr: &[u8; W]) -> bool
     ensures clear { IsTrue result ↔ HasNoBitPast len addr.now }
     ensures octets { AreOctets addr.now }

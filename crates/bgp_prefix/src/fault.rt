@@ -5,14 +5,14 @@ ghost use Rattle.bgp_prefix.specs.declared.fault.RunFault.TheVariants.{Memory};
 
 use std::alloc::AllocError;
 
-/// Why octets are no run: the first fault from the left.
+/// The first fault, from the left, of octets that are no run.
 #[derive(Clone, Copy, Debug, PartialEq, Eq)]
 pub enum RunFault {
-    /// A length is above the bits of an address: 32 for IPv4, 128 for IPv6.
+    /// A length is above that of an address: 32 bits for IPv4, 128 for IPv6.
     TooLong,
     /// A prefix goes past the end of the octets.
     PastEnd,
-    /// No memory was left for the prefixes.
+    /// An allocation for the prefixes failed.
     Memory,
 }
 

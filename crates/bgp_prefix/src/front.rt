@@ -1,4 +1,4 @@
-//! The prefix at the front of octets, before it is a value.
+//! The first prefix of octets, before it is a value.
 
 ghost use Rattle.std.specs.Prelude.{◌≡◌, ◌≤◌, ◌*◌, ◌∷◌, ◌++◌, length, take, IfSome, option_map};
 ghost use Rattle.bgp_wire.specs.Prelude.{AreOctets};
@@ -6,7 +6,7 @@ ghost use Rattle.bgp_prefix.specs.Prelude.{octets_for, address_of, prefix_of, on
 
 use crate::bits::{address, is_allowed, octets_for};
 
-/// A length in bits, all octets behind it, those of them that hold as many bits, and what follows these.
+/// A length in bits, all octets after it, those of them that the prefix has, and what follows these.
 #[derive(Clone, Copy)]
 pub(crate) struct Front<'a> {
     pub(crate) len: u8,
@@ -16,7 +16,7 @@ pub(crate) struct Front<'a> {
 }
 
 impl<'a> Front<'a> {
-    /// The address: where as many octets follow as it has, they are read and masked as one word, those behind the prefix among them.
+    /// The address: where `W` octets follow the length, they are read and masked as one word, including any after the prefix.
     #[inline(always)]
     pub(crate) fn address<const W: usize>(&self) -> [u8; W]
         requires allowed { self.now.len ≤ 8 * W }
@@ -32,8 +32,8 @@ impl<'a> Front<'a> {
     }
 }
 
-/// The prefix at the front of octets, of addresses of `W` octets (RFC 4271, section 4.3). None
-/// where the length is too long, or the octets end before as many bits.
+/// The first prefix of octets, with an address of `W` octets (RFC 4271, section 4.3). None
+/// where the length is too long, or the octets end before it.
 #[tactic(auto, unfolding(crate::specs::Prefix::one_prefix))]
 pub(crate) fn cut_front<const W: usize>(octets: &[u8]) -> Option<Front<'_>>
     ensures value { option_map (λ f. (prefix_of W f.len f.read.now, f.after.now)) result
@@ -57,7 +57,7 @@ pub(crate) fn cut_front<const W: usize>(octets: &[u8]) -> Option<Front<'_>>
     })
 }
 
-/// How many prefixes octets begin with, and what is left behind them.
+/// The number of prefixes that octets begin with, and what is left after them.
 pub(crate) fn skip_run<const W: usize>(octets: &[u8]) -> (usize, &[u8])
     ensures count { result.0 ≡ length (run_of W octets.now).0 }
     ensures rest { result.1.now ≡ (run_of W octets.now).1 }

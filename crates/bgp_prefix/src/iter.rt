@@ -7,7 +7,7 @@ use crate::front::{cut_front, skip_run};
 use crate::prefix::Prefix;
 use std::iter::FusedIterator;
 
-/// The prefixes that octets begin with, up to the end or the first fault. It takes no memory.
+/// The prefixes that octets begin with, up to the end or the first fault. It allocates nothing.
 #[derive(Clone, Copy)]
 pub struct PrefixIter<'a, const W: usize> {
     pub(crate) rest: &'a [u8],
@@ -19,8 +19,8 @@ pub type PrefixIter4<'a> = PrefixIter<'a, 4>;
 /// The IPv6 prefixes of octets.
 pub type PrefixIter6<'a> = PrefixIter<'a, 16>;
 
-/// The prefix at the front of octets, and what follows it (RFC 4271, section 4.3). None where its length is too long, or the octets end before as many
-/// bits.
+/// The first prefix of octets, and what follows it (RFC 4271, section 4.3). None where its length is too long, or the octets end
+/// before it.
 #[inline(always)]
 pub fn first_prefix<const W: usize>(octets: &[u8]) -> Option<(Prefix<W>, &[u8])>
     ensures { option_map (λ x. (x.0, x.1.now)) result ≡ one_prefix W octets.now }
@@ -41,7 +41,7 @@ impl<'a, const W: usize> PrefixIter<'a, W> {
         PrefixIter { rest: octets }
     }
 
-    /// Whether a prefix is still to come.
+    /// Whether a prefix is left.
     #[inline(always)]
     pub fn has_next(&self) -> bool
         ensures { result ≡ nat_lt 0 (length (prefixes_left self.now)) }
@@ -52,7 +52,7 @@ impl<'a, const W: usize> PrefixIter<'a, W> {
         }
     }
 
-    /// How many prefixes are still to come.
+    /// The number of prefixes that are left.
     pub fn left(&self) -> usize
         ensures { result ≡ length (prefixes_left self.now) }
     {
@@ -77,7 +77,7 @@ impl<'a, const W: usize> Iterator for PrefixIter<'a, W> {
         Some(Prefix::from_front(front))
     }
 
-    /// Each prefix takes at least its length octet.
+    /// Each prefix has at least its length octet.
     fn size_hint(&self) -> (usize, Option<usize>) {
         (0, Some(self.rest.len()))
     }

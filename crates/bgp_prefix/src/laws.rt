@@ -7,18 +7,18 @@ ghost use Rattle.bgp_wire.specs.Prelude.{AreOctets, Row, IsPrefixFree, Splits, R
 ghost use Rattle.bgp_prefix.specs.declared.fault.RunFault.TheVariants.{TooLong, PastEnd};
 ghost use Rattle.bgp_prefix.specs.Prelude.{octets_for, PrefixValue, IsValid, IsPrefix, HasFirstBits, one_prefix, spelling_of, run_of, run_fault};
 
-/// No spelling of a prefix begins another one, and each has one value.
+/// No encoding of a prefix is the beginning of another, and each has one value.
 pub fn spellings_are_prefix_free()
     ensures { (width : ℕ) → IsPrefixFree (IsPrefix width) }
 {}
 
-/// The reader of one prefix finds each spelling at the front of octets, and nothing else.
+/// The reader of one prefix finds each encoding at the front of octets, and nothing else.
 pub fn readings_are_spellings()
     ensures { (width : ℕ) → Reads (IsPrefix width) (one_prefix width) }
 {}
 
-/// An address has the first bits of the octets behind the length octet, as many as the length
-/// says, and zeros past them; and octets of which it has these are a spelling.
+/// An address has the first bits of the octets after the length octet, up to the length, and
+/// zeros past them; and octets that give these bits encode the prefix.
 pub fn addresses_are_first_bits()
     ensures kept { (width : ℕ) (p : PrefixValue) (b : List ℕ)
         → IsPrefix width p b → HasFirstBits width p b }
@@ -27,7 +27,7 @@ pub fn addresses_are_first_bits()
         → HasFirstBits width p (p.len ∷ read) → IsPrefix width p (p.len ∷ read) }
 {}
 
-/// Octets are their prefixes and a rest at whose front none stands, and have no other such split.
+/// Octets split into their prefixes and a rest that begins with none, in one way only.
 pub fn octets_have_one_split()
     ensures split { (width : ℕ) (b : List ℕ)
         → Splits (IsPrefix width) b (run_of width b).0 (run_of width b).1 }
@@ -35,8 +35,8 @@ pub fn octets_have_one_split()
         → Splits (IsPrefix width) b prefixes rest → run_of width b ≡ (prefixes, rest) }
 {}
 
-/// A fault says what is wrong with the first length that has no prefix: it is above the bits of
-/// an address, or the octets end before as many bits.
+/// A fault says what is wrong with the first length that has no prefix: it is above that of an
+/// address, or the octets end before it.
 pub fn faults_say_why()
     ensures { (width : ℕ) (b : List ℕ) (prefixes : List PrefixValue) (l : ℕ) (rest : List ℕ)
         → run_of width b ≡ (prefixes, l ∷ rest)
@@ -51,7 +51,7 @@ pub fn written_runs_are_read()
         → run_of width (flat_map spelling_of prefixes) ≡ (prefixes, []) }
 {}
 
-/// The prefixes of a run, written again, are a run of as many octets with the same prefixes.
+/// The prefixes of a run, written again, are a run of the same length with the same prefixes.
 pub fn runs_are_rewritten()
     ensures row { (width : ℕ) (prefixes : List PrefixValue) (b : List ℕ)
         → AreOctets b → Row (IsPrefix width) prefixes b

@@ -1,10 +1,10 @@
-//! Which bits of an octet are among the first ones of an address.
+//! The masks that keep the first bits of an address.
 
 ghost use Rattle.std.specs.Prelude.{◌≡◌, ◌<◌, ℕ, slice_index};
 ghost use Rattle.bgp_prefix.specs.Prelude.{mask_of};
 
-// Row `r` has the masks for `256 + r` bits, an octet each. Those for fewer bits begin further on in a row: all masks of an address lie side by side,
-// and so they are put to its octets at once.
+// Row `r` has the masks for `256 + r` bits, an octet each. Those for fewer bits begin further on in a row: all masks of an address are adjacent,
+// so that they are applied to its octets at once.
 static MASKS: [[u8; 64]; 8] = [
     [
         255, 255, 255, 255, 255, 255, 255, 255, 255, 255, 255, 255, 255, 255, 255, 255, 255, 255,
@@ -60,7 +60,7 @@ pub(crate) fn mask(len: u8, i: usize) -> u8
     }
 }
 
-/// The masks of all octets of an address: an array of their own, so that they are put to its octets as one word.
+/// The masks of all octets of an address: an array of their own, so that they are applied as one word.
 #[inline(always)]
 pub(crate) fn masks<const W: usize>(len: u8) -> [u8; W]
     ensures { (i : ℕ) → i < W → slice_index result i ≡ mask_of len i }

@@ -1,4 +1,4 @@
-//! A prefix: the first bits of the addresses that it stands for.
+//! A prefix: the first bits that a set of addresses shares.
 
 ghost use Rattle.std.specs.Prelude.{◌≡◌, ◌<◌, ◌≤◌, ◌+◌, ◌*◌, ◌↔◌, ◌++◌, length, take};
 ghost use Rattle.std.specs.Prelude.{IsSome, IfSome, OnOk, OnErr};
@@ -14,7 +14,7 @@ use std::cmp::Ordering;
 use std::marker::Model;
 
 /// The first `len` bits of addresses of `W` octets (RFC 4271, section 4.3; RFC 4760, section 5).
-/// Prefixes are in order of their addresses, octet by octet from the highest, and at one address of their lengths.
+/// Prefixes are ordered by their addresses, octet by octet from the highest, then by their lengths.
 #[derive(Clone, Copy, Debug, PartialEq, Eq)]
 pub struct Prefix<const W: usize> {
     addr: [u8; W],
@@ -40,8 +40,8 @@ impl<const W: usize> Model for Prefix<W> {
 }
 
 impl<const W: usize> Prefix<W> {
-    /// The prefix of an address, of which it has the first `len` bits. None where the address
-    /// hasn't as many, or a bit past them is set.
+    /// The prefix of the first `len` bits of an address. None where the address has fewer bits, or
+    /// one past them is set.
     pub fn new(len: u8, addr: [u8; W]) -> Option<Prefix<W>>
         ensures made { IsSome result ↔ ((len ≤ 8 * W) × HasNoBitPast len addr.entry) }
         ensures value { IfSome result (λ p. p ≡ record { len = len; addr = addr.entry }) }
@@ -69,7 +69,7 @@ impl<const W: usize> Prefix<W> {
         self.addr
     }
 
-    /// The prefix that the front of octets stands for. Bits past the length are ignored.
+    /// The prefix at the front of octets. Bits past the length are ignored.
     #[inline(always)]
     pub(crate) fn from_front(front: Front<'_>) -> Prefix<W>
         requires allowed { front.len ≤ 8 * W }
@@ -84,7 +84,7 @@ impl<const W: usize> Prefix<W> {
         }
     }
 
-    /// Adds the octets of the prefix, with 0 for each bit past the length.
+    /// Appends the octets of the prefix, with 0 for each bit past the length.
     #[tactic(auto, unfolding(crate::specs::Prefix::spelling_of))]
     pub(crate) fn append_to<O: Output>(&self, out: &mut O) -> Result<(), AllocError>
         ensures ok { OnOk result (O.written out.new ≡ O.written out.old ++ spelling_of self.now) }

@@ -1,4 +1,4 @@
-//! Prefixes from octets to octets, with no list between.
+//! Prefixes copied from octets to octets, with no list between.
 
 ghost use Rattle.std.specs.Prelude.{◌≡◌, ◌+◌, ◌<◌, ◌++◌, ◌∷◌, ℕ, List, true, length, OnOk, OnErr};
 ghost use Rattle.std.specs.List.{flat_map};
@@ -11,7 +11,7 @@ use crate::mask::mask;
 use bgp_wire::Output;
 use std::alloc::AllocError;
 
-/// Adds a length and the octets behind it, of which the last alone can have bits past the length.
+/// Appends a length and the octets after it, of which only the last can have bits past the length.
 #[inline(always)]
 fn append_front<O: Output>(front: Front<'_>, out: &mut O) -> Result<(), AllocError>
     requires { length front.read.now ≡ octets_for front.len }
@@ -53,7 +53,7 @@ fn is_written<const W: usize>(octets: &[u8]) -> bool
     rest.is_empty()
 }
 
-/// Adds the prefixes that octets begin with; those of the first ones may stay where there was no room.
+/// Appends the prefixes that octets begin with; after an error the first ones may remain.
 fn append_octets<const W: usize, O: Output>(octets: &[u8], out: &mut O) -> Result<(), AllocError>
     ensures ok { OnOk result (O.written out.new ≡ O.written out.old ++ flat_map spelling_of (run_of W octets.now).0) }
     ensures err { OnErr result (Extends (O.written out.old) (O.written out.new)) }
@@ -68,11 +68,11 @@ fn append_octets<const W: usize, O: Output>(octets: &[u8], out: &mut O) -> Resul
 }
 
 impl<'a, const W: usize> PrefixIter<'a, W> {
-    /// Adds the octets of the prefixes that are still to come, as [`write_run`](crate::write_run) adds those of a list: each with 0 for the
+    /// Appends the octets of the prefixes that are left, as [`write_run`](crate::write_run) does those of a list: each with 0 for the
     /// bits past its length (RFC 4271, section 4.3).
     ///
     /// # Errors
-    /// `AllocError` where there was no room; what is there is then as it was.
+    /// `AllocError` where there was no room; what was written before is then as it was.
     pub fn write<O: Output>(self, out: &mut O) -> Result<(), AllocError>
         ensures ok { OnOk result (O.written out.new ≡ O.written out.old ++ flat_map spelling_of (prefixes_left self.entry)) }
         ensures err { OnErr result (O.written out.new ≡ O.written out.old) }

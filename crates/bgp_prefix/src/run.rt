@@ -1,4 +1,4 @@
-//! Runs: octets that are prefixes one after another, with nothing between or behind them.
+//! Runs: octets that are prefixes one after another, with nothing between or after them.
 
 ghost use Rattle.std.specs.Prelude.{◌≡◌, ◌<◌, ◌+◌, ◌↔◌, [], ◌++◌, length, IsTrue, OnOk, OnErr};
 ghost use Rattle.std.specs.List.{flat_map, AllByRecursion};
@@ -12,14 +12,14 @@ use crate::prefix::{Prefix, Prefix4, Prefix6};
 use bgp_wire::{List, Output};
 use std::alloc::{AllocError, Global};
 
-/// Whether octets are a run of IPv4 prefixes (RFC 4271, section 4.3). It takes no memory.
+/// Whether octets are a run of IPv4 prefixes (RFC 4271, section 4.3). It allocates nothing.
 pub fn check_run4(octets: &[u8]) -> bool
     ensures { IsTrue result ↔ ((run_of 4 octets.now).1 ≡ []) }
 {
     check_run::<4>(octets)
 }
 
-/// Whether octets are a run of IPv6 prefixes (RFC 4760, section 5). It takes no memory.
+/// Whether octets are a run of IPv6 prefixes (RFC 4760, section 5). It allocates nothing.
 pub fn check_run6(octets: &[u8]) -> bool
     ensures { IsTrue result ↔ ((run_of 16 octets.now).1 ≡ []) }
 {
@@ -67,7 +67,7 @@ fn read_run<const W: usize>(alloc: Global, octets: &[u8]) -> Result<List<Prefix<
     }
 }
 
-/// Why no prefix stands where this length does.
+/// Why no prefix begins with this length.
 fn fault_at<const W: usize>(len: u8) -> RunFault
     ensures { result ≡ fault_at W len }
 {
@@ -78,7 +78,7 @@ fn fault_at<const W: usize>(len: u8) -> RunFault
     }
 }
 
-/// Adds the octets of the prefixes, each with 0 for the bits past its length.
+/// Appends the octets of the prefixes, each with 0 for the bits past its length.
 ///
 /// # Errors
 /// `AllocError` where an allocation failed; the vector is then as it was.
@@ -92,7 +92,7 @@ pub fn write_run4(prefixes: &[Prefix4], out: &mut Vec<u8>) -> Result<(), AllocEr
     write_run(prefixes, out)
 }
 
-/// Adds the octets of the prefixes, each with 0 for the bits past its length.
+/// Appends the octets of the prefixes, each with 0 for the bits past its length.
 ///
 /// # Errors
 /// `AllocError` where an allocation failed; the vector is then as it was.
@@ -106,10 +106,10 @@ pub fn write_run6(prefixes: &[Prefix6], out: &mut Vec<u8>) -> Result<(), AllocEr
     write_run(prefixes, out)
 }
 
-/// Adds the octets of the prefixes of any family, each with 0 for the bits past its length.
+/// Appends the octets of prefixes of either family, each with 0 for the bits past its length.
 ///
 /// # Errors
-/// `AllocError` where there was no room; what is there is then as it was.
+/// `AllocError` where there was no room; what was written before is then as it was.
 pub fn write_run<const W: usize, O: Output>(
     prefixes: &[Prefix<W>],
     out: &mut O,
@@ -130,7 +130,7 @@ pub fn write_run<const W: usize, O: Output>(
     written
 }
 
-/// Adds the octets of the prefixes; those of the first ones may stay where there was no room.
+/// Appends the octets of the prefixes; after an error those of the first ones may remain.
 fn append_run<const W: usize, O: Output>(
     prefixes: &[Prefix<W>],
     out: &mut O,

@@ -73,7 +73,7 @@ fn attrs_of(alloc: Global, attr: Attr) -> Result<Attrs, Trouble> {
     Ok(attrs)
 }
 
-/// Adds whether an UPDATE of an attribute isn't its copy.
+/// Adds a line if an UPDATE of an attribute doesn't equal its copy.
 fn put_alone(alloc: Global, page: &mut Page, attr: Attr) -> Result<(), Trouble> {
     let update = Update {
         withdrawn: List::new(alloc),
@@ -98,7 +98,7 @@ fn put_kept(alloc: Global, page: &mut Page, view: &AttrView<'_>) -> Result<(), T
     put_alone(alloc, page, attr)
 }
 
-/// Adds what becomes of an attribute.
+/// Adds the judgement of an attribute.
 fn put_judged(alloc: Global, page: &mut Page, judged: &JudgedView<'_>) -> Result<(), Trouble> {
     match judged {
         JudgedView::Keep(attr) => return put_kept(alloc, page, attr),
@@ -118,7 +118,7 @@ fn put_judged(alloc: Global, page: &mut Page, judged: &JudgedView<'_>) -> Result
     page.put("\n")
 }
 
-/// Adds whether an attribute is judged otherwise as a view, and whether that isn't its copy.
+/// Adds a line if an attribute is judged otherwise as a view, and if that doesn't equal its copy.
 fn put_otherwise(
     alloc: Global,
     page: &mut Page,
@@ -134,7 +134,7 @@ fn put_otherwise(
     Ok(())
 }
 
-/// Adds an attribute's place and its type.
+/// Adds an attribute's offset and its type.
 fn put_place(alloc: Global, page: &mut Page, tlv: &Tlv<'_>) -> Result<(), Trouble> {
     page.put_value(alloc, &tlv.at)?;
     page.put(" ")?;
@@ -142,7 +142,7 @@ fn put_place(alloc: Global, page: &mut Page, tlv: &Tlv<'_>) -> Result<(), Troubl
     page.put(" ")
 }
 
-/// Adds what becomes of an attribute, behind its offset and type; the view and the owned value have to agree.
+/// Adds the judgement of an attribute, after its offset and type; the view and the owned value must agree.
 fn put_attribute(
     alloc: Global,
     page: &mut Page,
@@ -160,7 +160,7 @@ fn put_attribute(
     put_judged(alloc, page, &view)
 }
 
-/// What becomes of the attributes of a field, and what is left where no attribute begins.
+/// The judgements of the attributes of a field, and what is left where no attribute begins.
 pub fn put_attributes(
     alloc: Global,
     ctx: &Context,

@@ -10,7 +10,7 @@ use std::alloc::Global;
 /// The lines of a Marker with another octet.
 const BAD_MARKER: &str = "0 0 HEADER reset 1/1 -\nend head\n";
 
-/// Whether all ways of reading had the same outcome, and a Marker's fault its answer.
+/// Whether all ways of reading had the same outcome, and a Marker's fault its NOTIFICATION.
 fn is_as_wanted(page: &Page, place: usize) -> bool {
     let text = page.text.as_str();
     let agrees = !text.contains("octet by octet:")
@@ -19,7 +19,7 @@ fn is_as_wanted(page: &Page, place: usize) -> bool {
     agrees && (place >= 16 || text == BAD_MARKER)
 }
 
-/// Changes one octet to each other value: how many had the outcome that is wanted.
+/// Changes one octet to each other value, and counts those whose outcome is the one wanted.
 fn count_at(
     alloc: Global,
     ctx: &Context,
@@ -47,7 +47,7 @@ fn count_at(
     Ok(good)
 }
 
-/// Each front that is shorter than the message: how many wait for the rest.
+/// The number of proper prefixes of the message that are incomplete.
 fn count_fronts(alloc: Global, ctx: &Context, message: &[u8]) -> Result<u64, Trouble> {
     let mut good = 0u64;
     for size in 0..message.len() {
@@ -61,7 +61,7 @@ fn count_fronts(alloc: Global, ctx: &Context, message: &[u8]) -> Result<u64, Tro
     Ok(good)
 }
 
-/// How many beginnings of a message are incomplete, and how many changes of one octet have the same outcome however they are read.
+/// The number of proper prefixes of a message that are incomplete, and of changes of one octet with one outcome however they are read.
 pub fn put_changes(alloc: Global, ctx: &Context, message: &[u8]) -> Result<Page, Trouble> {
     let mut octets = Octets::new();
     if octets.try_extend_from_slice(message).is_err() {

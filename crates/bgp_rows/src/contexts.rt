@@ -1,9 +1,9 @@
-//! The contexts that a row speaks of: what its words name is set, or with `no-` before it isn't; what they don't name is tried both ways.
+//! The contexts of a row: what its words name is set, or with `no-` before it isn't; what they don't name is tried both ways.
 
 use crate::trouble::Trouble;
 use bgp_open::Context;
 
-/// What a row says of contexts, and of whether there are routes in the NLRI field.
+/// The contexts of a row, and whether there are routes in the NLRI field.
 #[derive(Clone, Copy)]
 pub struct Contexts {
     internal: Option<bool>,
@@ -13,7 +13,7 @@ pub struct Contexts {
     nlri: Option<bool>,
 }
 
-/// How many cases there are of the five.
+/// The number of cases of the five flags.
 pub const CASES: u8 = 32;
 
 /// One of the cases.
@@ -39,7 +39,7 @@ impl Case {
     }
 }
 
-/// Whether a flag is as it is wanted.
+/// Whether a flag is as wanted.
 fn is_as_told(told: Option<bool>, flag: bool) -> bool {
     match told {
         Some(told) => told == flag,
@@ -48,7 +48,7 @@ fn is_as_told(told: Option<bool>, flag: bool) -> bool {
 }
 
 impl Contexts {
-    /// What a row's words say.
+    /// The contexts that a row's words give.
     pub fn read(words: &str) -> Result<Contexts, Trouble> {
         let mut told = Contexts {
             internal: None,
@@ -63,7 +63,7 @@ impl Contexts {
         Ok(told)
     }
 
-    /// Takes in one word.
+    /// Adds one word.
     fn add(&mut self, word: &str) -> Result<(), Trouble> {
         let (flag, name) = match word.strip_prefix("no-") {
             Some(name) => (false, name),
@@ -80,7 +80,7 @@ impl Contexts {
         Ok(())
     }
 
-    /// Whether a row speaks of this context.
+    /// Whether a row includes this context.
     pub fn allows(&self, ctx: &Context) -> bool {
         is_as_told(self.internal, ctx.internal)
             && is_as_told(self.as4, ctx.as4)
@@ -88,7 +88,7 @@ impl Contexts {
             && is_as_told(self.ip6, ctx.ip6)
     }
 
-    /// Whether a row speaks of this case.
+    /// Whether a row includes this case.
     pub fn allows_case(&self, case: &Case) -> bool {
         self.allows(&case.context) && is_as_told(self.nlri, case.has_nlri)
     }

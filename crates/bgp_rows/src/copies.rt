@@ -5,7 +5,7 @@ use bgp_msg::Seen;
 use bgp_update::Update;
 use std::alloc::{AllocError, Global};
 
-/// What a page says of a value that isn't its copy.
+/// The line for a value that doesn't equal its copy.
 pub const OTHERWISE: &str = "otherwise as a copy:\n";
 
 /// Whether a judgement equals its copy.
@@ -18,7 +18,7 @@ pub fn is_update_copied(alloc: Global, update: &Update) -> Result<bool, AllocErr
     Ok(update.copy(alloc)? == *update)
 }
 
-/// Whether what a stream has equals its copy.
+/// Whether the outcomes of a stream equal their copy.
 pub fn is_seen_copied(alloc: Global, seen: &Seen) -> Result<bool, AllocError> {
     Ok(seen.copy(alloc)? == *seen)
 }

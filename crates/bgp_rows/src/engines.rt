@@ -13,7 +13,7 @@ use bgp_open::Context;
 use bgp_wire::OctetSet;
 use std::alloc::Global;
 
-/// The types that a row leaves out: the numbers behind `drop`.
+/// The types that a row leaves out: the numbers after `drop`.
 fn drops_of(settings: &str) -> OctetSet {
     let mut drops = OctetSet::new();
     for word in settings.split_whitespace() {
@@ -53,7 +53,7 @@ fn run_engine(
     }
 }
 
-/// Runs an engine, and again where allocation failed: what was written then has to be a front of the output.
+/// Runs an engine, and again after a failed allocation: what was written before that must be a prefix of the output.
 fn run_again(
     alloc: Global,
     row: &Row<'_>,
@@ -79,7 +79,7 @@ fn run_again(
     Ok(answer)
 }
 
-/// Adds the reasons among lines of fields.
+/// Adds the reasons in lines of fields.
 fn put_reasons(page: &mut Page, lines: &str) -> Result<(), Trouble> {
     for line in lines.split('\n') {
         if let Some((before, reason)) = line.split_once("! ") {
@@ -128,7 +128,7 @@ fn put_run(
     Ok(page)
 }
 
-/// A row that asks for `show`.
+/// A row of kind `show`.
 const SHOW: Row<'static> = Row {
     name: "",
     kind: "show",
@@ -138,7 +138,7 @@ const SHOW: Row<'static> = Row {
     file: "",
 };
 
-/// What `show` writes of a stream, from a reader that gives so many octets at a time.
+/// What `show` writes for a stream, from a reader that gives `step` octets at a time.
 pub fn put_shown(
     alloc: Global,
     ctx: &Context,
@@ -154,7 +154,7 @@ pub fn put_shown(
     Ok(page)
 }
 
-/// What an engine does of octets, from each of three readers.
+/// What an engine writes for octets, from each of three readers.
 fn put_runs(alloc: Global, row: &Row<'_>, ctx: &Context, input: &[u8]) -> Result<Page, Trouble> {
     let page = put_run(alloc, row, ctx, input, 4096)?;
     for step in [1, 7] {
@@ -177,7 +177,7 @@ fn given_text(alloc: Global, row: &Row<'_>) -> Result<Page, Trouble> {
     Ok(text)
 }
 
-/// What an engine does of octets, or where there are none of the row's text.
+/// What an engine writes for octets, or for the row's text if there are none.
 pub fn put_engine(
     alloc: Global,
     row: &Row<'_>,
@@ -191,7 +191,7 @@ pub fn put_engine(
     put_runs(alloc, row, ctx, text.text.as_str().as_bytes())
 }
 
-/// Adds a line of text: `\n`, `\r` and `\t` stand for what they do in C, and `M` for a Marker's digits.
+/// Adds a line of text: `\n`, `\r` and `\t` are as in C, and `M` is a Marker's digits.
 fn put_text(text: &mut Page, line: &str) -> Result<(), Trouble> {
     let mut is_escaped = false;
     for character in line.bytes() {

@@ -1,5 +1,5 @@
-//! Rows of text about formats, messages and engines: how a row is written, and what the library makes of what it gives
-//! (docs/ROWS.md). Rows about sessions and scripts, and the program, stand in `bgp_check_rows`.
+//! Rows of text about formats, messages and engines: how a row is written, and what the library returns for its input
+//! (docs/ROWS.md). Rows about sessions and scripts, and the program, are in `bgp_check_rows`.
 #![tactic(auto)]
 
 pub mod attributes;

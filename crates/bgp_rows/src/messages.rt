@@ -1,4 +1,4 @@
-//! The outcomes of a stream of messages: whole, octet by octet, by `pull` in the caller's piece, and as views.
+//! The outcomes of a stream of messages: whole, octet by octet, by `pull` from the caller's piece, and as views.
 
 ghost use Rattle.std.specs.Prelude.{◌≡◌, IfOk, IfSome};
 
@@ -12,10 +12,10 @@ use bgp_open::Context;
 use bgp_update::UpdateView;
 use std::alloc::Global;
 
-/// What a refused call of a decoder left otherwise than it was.
+/// The line for a decoder that a failed call changed.
 const CHANGED: &str = "a decoder that lacked memory isn't as it was\n";
 
-/// Adds the lines of all outcomes and of the end, and whether they aren't their copies.
+/// Adds the lines of all outcomes and of the end, and a line if they don't equal their copies.
 fn put_seen(alloc: Global, ctx: &Context, page: &mut Page, seen: &Seen) -> Result<(), Trouble> {
     if !is_seen_copied(alloc, seen)? {
         page.put(OTHERWISE)?;
@@ -33,7 +33,7 @@ fn whole(alloc: Global, ctx: &Context, stream: &[u8]) -> Result<Page, Trouble> {
     Ok(page)
 }
 
-/// How a stream ended whose last outcome is of so many octets.
+/// How a stream ended whose last outcome is of this length.
 fn end_of(decoder: &Decoder, last: Option<u16>) -> End {
     match last {
         Some(0) => End::Head,
@@ -42,12 +42,12 @@ fn end_of(decoder: &Decoder, last: Option<u16>) -> End {
     }
 }
 
-/// What a call whose allocation failed has to leave as it was.
+/// What a call whose allocation failed must leave unchanged.
 fn standing(decoder: &Decoder) -> (usize, bool) {
     (decoder.held(), decoder.stopped())
 }
 
-/// The outcome of what is held, and again where an allocation failed.
+/// The outcome of the octets held, tried again after a failed allocation.
 fn next_again(
     alloc: Global,
     decoder: &mut Decoder,
@@ -62,7 +62,7 @@ fn next_again(
     Ok(decoder.next(alloc)?)
 }
 
-/// Adds the outcome of what is held, where it is whole: how many octets it has.
+/// Adds the outcome of the octets held, if they are a whole message, and returns its length.
 fn put_next(
     alloc: Global,
     ctx: &Context,
@@ -76,7 +76,7 @@ fn put_next(
     Ok(Some(len))
 }
 
-/// The stream octet by octet, by `feed` and `next`: an octet that isn't taken stands behind a message.
+/// The stream octet by octet, by `feed` and `next`: an octet that isn't accepted follows a message.
 fn by_octets(alloc: Global, ctx: &Context, stream: &[u8]) -> Result<Page, Trouble> {
     let mut page = Page::new(alloc);
     let mut decoder = Decoder::new(*ctx);
@@ -92,10 +92,10 @@ fn by_octets(alloc: Global, ctx: &Context, stream: &[u8]) -> Result<Page, Troubl
     Ok(page)
 }
 
-/// What one call answers: how many octets of the piece it took, and those of the message that it gave, where it gave one.
+/// The result of one call: the number of octets consumed of the piece, and the length of the message, if there was one.
 type Taken = (usize, Option<u16>);
 
-/// What one pull gives, and again where allocation failed.
+/// The result of one pull, tried again after a failed allocation.
 fn pull_again(
     alloc: Global,
     decoder: &mut Decoder,
@@ -111,7 +111,7 @@ fn pull_again(
     Ok(decoder.pull(alloc, piece)?)
 }
 
-/// Adds what one pull gives.
+/// Adds the result of one pull.
 fn put_pulled(
     alloc: Global,
     ctx: &Context,
@@ -127,7 +127,7 @@ fn put_pulled(
     Ok((taken, Some(len)))
 }
 
-/// Adds what a view shows.
+/// Adds what a view contains.
 fn put_view(
     alloc: Global,
     ctx: &Context,
@@ -139,7 +139,7 @@ fn put_view(
     page.put_outcome(alloc, ctx, len, &outcome)
 }
 
-/// Adds the answer to a header's fault.
+/// Adds the NOTIFICATION of a header's fault.
 fn put_fault(
     alloc: Global,
     ctx: &Context,
@@ -150,7 +150,7 @@ fn put_fault(
     page.put_outcome(alloc, ctx, 0, &outcome)
 }
 
-/// Adds what a look finds, as a view. Answers how many octets it takes, how many its message has, and where the decoder goes on.
+/// Adds what `look` finds, as a view. Returns the number of octets consumed, the length of the message, and how the decoder continues.
 fn put_found(
     alloc: Global,
     ctx: &Context,
@@ -174,7 +174,7 @@ fn put_found(
     }
 }
 
-/// Adds what a look finds, as a view, and goes on behind it.
+/// Adds what `look` finds, as a view, and continues after it.
 fn put_looked(
     alloc: Global,
     ctx: &Context,
@@ -197,7 +197,7 @@ enum Call {
     Look,
 }
 
-/// The stream in pieces of so many octets, all in one for 0.
+/// The stream in pieces of this size, or in one for 0.
 fn in_pieces(
     alloc: Global,
     ctx: &Context,
@@ -229,7 +229,7 @@ fn in_pieces(
     Ok(page)
 }
 
-/// Adds what came another way, where it isn't the same.
+/// Adds the result of another way, if it isn't the same.
 fn compare(page: &mut Page, way: &str, other: &Page) -> Result<(), Trouble> {
     if page.text != other.text {
         page.put(way)?;
@@ -238,7 +238,7 @@ fn compare(page: &mut Page, way: &str, other: &Page) -> Result<(), Trouble> {
     Ok(())
 }
 
-/// The ways to read a stream in pieces: each with what it is called, the call, and how many octets a piece has.
+/// The ways to read a stream in pieces: each with its name, the call, and the size of a piece.
 const WAYS: [(&str, Call, usize); 4] = [
     ("by pull:\n", Call::Pull, 0),
     ("by pull, in pieces of 20:\n", Call::Pull, 20),
@@ -246,10 +246,10 @@ const WAYS: [(&str, Call, usize); 4] = [
     ("as views, in pieces of 20:\n", Call::Look, 20),
 ];
 
-/// The ways to show a stream: each with what it is called, and how many octets its reader gives at a time.
+/// The ways to show a stream: each with its name, and the number of octets that its reader gives at a time.
 const SHOWN: [(&str, usize); 2] = [("by show:\n", 4096), ("by show, octet by octet:\n", 1)];
 
-/// The outcomes of a stream, all ways that the library reads it: where one differs, its lines are added under its name.
+/// The outcomes of a stream, in all ways that the library reads it: if one differs, its lines are added under its name.
 pub fn put_ways(alloc: Global, ctx: &Context, stream: &[u8]) -> Result<Page, Trouble> {
     let mut page = whole(alloc, ctx, stream)?;
     compare(
@@ -263,7 +263,7 @@ pub fn put_ways(alloc: Global, ctx: &Context, stream: &[u8]) -> Result<Page, Tro
     Ok(page)
 }
 
-/// The outcomes of a stream, and what `show` writes of it.
+/// The outcomes of a stream, and what `show` writes for it.
 pub fn put_messages(alloc: Global, ctx: &Context, stream: &[u8]) -> Result<Page, Trouble> {
     let mut page = put_ways(alloc, ctx, stream)?;
     for (way, step) in SHOWN {

@@ -1,10 +1,10 @@
-//! Octets as rows write them: pairs of digits; `M` for a Marker; `3*080a` for a repetition; a name that the file gives to octets.
+//! Octets as rows write them: pairs of digits; `M` for a Marker; `3*080a` for a repetition; a name that the file defines.
 
 use crate::row::{Row, split_word};
 use crate::trouble::Trouble;
 use arrayvec::ArrayVec;
 
-/// The octets of a row. They take no memory, so that a row can be tried with each allocation failing in turn.
+/// The octets of a row. They allocate nothing, so that a row can be tried with each allocation failing in turn.
 pub type Octets = ArrayVec<u8, 16384>;
 
 const TOO_MANY: Trouble = Trouble::Row("more than 16384 octets");
@@ -42,7 +42,7 @@ fn add_marker(octets: &mut Octets) -> Result<(), Trouble> {
     Ok(())
 }
 
-/// Adds digits so many times.
+/// Adds the octets of digits a number of times.
 fn add_repeated(count: &str, digits: &str, octets: &mut Octets) -> Result<(), Trouble> {
     let Ok(count) = count.parse::<u16>() else {
         return Err(NO_OCTETS);
@@ -72,7 +72,7 @@ fn add_plain(words: &str, octets: &mut Octets) -> Result<(), Trouble> {
     Ok(())
 }
 
-/// What the file says that a name stands for, in a line `name NAME OCTETS`.
+/// The octets that the file defines for a name, in a line `name NAME OCTETS`.
 fn named<'a>(file: &'a str, name: &str) -> Option<&'a str> {
     for line in file.split('\n') {
         if let Some(line) = line.strip_prefix("name ") {

@@ -1,4 +1,4 @@
-//! Each attribute of a field, written by itself (RFC 4271, section 4.3).
+//! Each attribute of a field, written alone (RFC 4271, section 4.3).
 
 use crate::attributes::TOO_LONG;
 use crate::page::Page;
@@ -8,7 +8,7 @@ use bgp_attr::{Attr, Judged, Tlv, TlvIter, judge, writable, write_attr};
 use bgp_open::Context;
 use std::alloc::Global;
 
-/// Writes an attribute, and again where allocation failed.
+/// Writes an attribute, and again after a failed allocation.
 fn write_again(
     page: &mut Page,
     ctx: &Context,
@@ -35,7 +35,7 @@ fn put_written(alloc: Global, page: &mut Page, ctx: &Context, attr: &Attr) -> Re
     put_behind(alloc, page, out.as_slice())
 }
 
-/// Adds what an attribute is written as, which has to be kept.
+/// Adds the octets that are written for an attribute, which must be kept.
 fn put_one(
     alloc: Global,
     page: &mut Page,
@@ -52,7 +52,7 @@ fn put_one(
     }
 }
 
-/// What each attribute of a field is written as.
+/// The octets that are written for each attribute of a field.
 pub fn put_each(
     alloc: Global,
     ctx: &Context,

@@ -1,4 +1,4 @@
-//! The lines that come of a row.
+//! The lines that result from a row.
 
 use crate::trouble::Trouble;
 use bgp_frame::{End, Notification, NotificationView};
@@ -10,14 +10,14 @@ use bgp_wire::List;
 use std::alloc::{AllocError, Global};
 use std::fmt::{Debug, Display};
 
-/// The lines that came, and the place in the stream that they have reached.
+/// The lines so far, and the offset in the stream that they have reached.
 #[derive(Drop)]
 pub struct Page {
     pub text: String,
     place: u64,
 }
 
-/// Why a value has no lines: they are those of its view, once it is written.
+/// Why a value has no lines: they are those of its view, which is read from its written form.
 const NO_VIEW: Trouble = Trouble::Row("a value that is read as itself where it is written");
 
 /// The octets of a message.
@@ -47,14 +47,14 @@ impl Page {
         Ok(self.text.push_str(text)?)
     }
 
-    /// Adds the lines of what a view shows, of so many octets.
+    /// Adds the lines of a view of a message of this length.
     fn put_view(&mut self, alloc: Global, len: u16, view: &OutcomeView<'_>) -> Result<(), Trouble> {
         put_viewed_outcome(alloc, &mut self.text, self.place, len, view)?;
         self.place = self.place.saturating_add(u64::from(len));
         Ok(())
     }
 
-    /// Adds the lines of a message that is accepted, but those of notes: it is written where it was read, and its view printed.
+    /// Adds the lines of a message that is accepted, without its notes: it is written in the context in which it was read, and its view printed.
     fn put_message(
         &mut self,
         alloc: Global,
@@ -83,7 +83,7 @@ impl Page {
         Ok(())
     }
 
-    /// Adds the lines of routes that are withdrawn.
+    /// Adds the lines of withdrawn routes.
     pub fn put_routes(&mut self, routes: &Routes) -> Result<(), Trouble> {
         for prefix in routes.ip4.iter() {
             write!(self.text, "  route {prefix}\n")?;
@@ -94,7 +94,7 @@ impl Page {
         Ok(())
     }
 
-    /// Adds the lines of an outcome of so many octets, in the context in which they were read.
+    /// Adds the lines of an outcome of this length, in the context in which it was read.
     pub fn put_outcome(
         &mut self,
         alloc: Global,
@@ -130,7 +130,7 @@ impl Page {
         Ok(put_end(&mut self.text, end)?)
     }
 
-    /// Adds the lines of what an UPDATE says that was accepted in a context.
+    /// Adds the lines of an UPDATE that was accepted in a context.
     pub fn put_update(
         &mut self,
         alloc: Global,
@@ -143,19 +143,19 @@ impl Page {
         self.put(lines)
     }
 
-    /// Adds octets as digits, and `-` where there are none.
+    /// Adds octets as digits, and `-` if there are none.
     pub fn put_digits(&mut self, alloc: Global, octets: &[u8]) -> Result<(), Trouble> {
         let digits = bgp_text::info_text(alloc, octets)?;
         self.put(digits.as_str())
     }
 
-    /// Adds a notification as `CODE/SUBCODE INFO`.
+    /// Adds a NOTIFICATION as `CODE/SUBCODE INFO`.
     pub fn put_notification(&mut self, alloc: Global, told: &Notification) -> Result<(), Trouble> {
         let text = bgp_text::notification_text(alloc, told)?;
         self.put(text.as_str())
     }
 
-    /// Adds what a value prints.
+    /// Adds a value as `Display` prints it.
     pub fn put_value<T: Display>(&mut self, alloc: Global, value: &T) -> Result<(), Trouble> {
         let text = value.to_string(alloc)?;
         self.put(text.as_str())

@@ -1,4 +1,4 @@
-//! The path and the aggregator of an UPDATE, put together from what speakers of two octets passed on (RFC 6793, section 4.2.3).
+//! The path and the aggregator of an UPDATE, restored from what 2-octet-AS speakers passed on (RFC 6793, section 4.2.3).
 
 use crate::attributes::no_attrs;
 use crate::page::Page;
@@ -12,7 +12,7 @@ use std::alloc::Global;
 
 const AN_UPDATE: Trouble = Trouble::Row("an UPDATE");
 
-/// In which context a path has AS numbers of four octets.
+/// The context in which a path has AS numbers of four octets.
 const WIDE: Context = Context {
     internal: true,
     as4: true,
@@ -21,7 +21,7 @@ const WIDE: Context = Context {
     hold: 0,
 };
 
-/// Adds a path and an aggregator, as an UPDATE shows them.
+/// Adds a path and an aggregator, as for an UPDATE.
 pub fn put_path(alloc: Global, page: &mut Page, info: PathInfo) -> Result<(), Trouble> {
     let mut attrs = no_attrs(alloc);
     attrs.as_path = info.path;
@@ -34,7 +34,7 @@ pub fn put_path(alloc: Global, page: &mut Page, info: PathInfo) -> Result<(), Tr
     page.put_update(alloc, &WIDE, &update)
 }
 
-/// What the view of an UPDATE gives.
+/// The path and the aggregator from the view of an UPDATE.
 fn viewed_info(alloc: Global, ctx: &Context, stream: &[u8]) -> Result<PathInfo, Trouble> {
     let decoder = Decoder::new(*ctx);
     let mut place = UpdateView::empty();
@@ -44,7 +44,7 @@ fn viewed_info(alloc: Global, ctx: &Context, stream: &[u8]) -> Result<PathInfo, 
     Ok(view.path_info().own(alloc)?)
 }
 
-/// What the UPDATE as a value gives.
+/// The path and the aggregator from the UPDATE as a value.
 fn owned_info(alloc: Global, ctx: &Context, stream: &[u8]) -> Result<PathInfo, Trouble> {
     match message_of(alloc, ctx, stream)? {
         Message::Update(update) => Ok(reconcile(alloc, &update.attrs)?),
@@ -52,7 +52,7 @@ fn owned_info(alloc: Global, ctx: &Context, stream: &[u8]) -> Result<PathInfo, T
     }
 }
 
-/// What the attributes of an UPDATE give; the view and the owned value have to agree.
+/// The path and the aggregator of an UPDATE; the view and the owned value must agree.
 pub fn put_paths(alloc: Global, ctx: &Context, stream: &[u8]) -> Result<Page, Trouble> {
     let info = owned_info(alloc, ctx, stream)?;
     let viewed = viewed_info(alloc, ctx, stream)?;

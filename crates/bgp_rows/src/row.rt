@@ -1,6 +1,6 @@
-//! A row of a rows file: its name, what it gives and the lines that it wants.
+//! A row of a rows file: its name, its input and the lines that it wants.
 
-/// A row: a paragraph of lines. The first is `row` and a name, the second its kind with settings; behind `want` stand the wanted lines.
+/// A row: a paragraph of lines. The first is `row` and a name, the second its kind with settings; the wanted lines follow `want`.
 #[derive(Clone, Copy)]
 pub struct Row<'a> {
     pub name: &'a str,
@@ -18,13 +18,13 @@ pub fn split_word(line: &str) -> (&str, &str) {
     line.split_once(' ').unwrap_or((line, ""))
 }
 
-/// The text of a paragraph's first line, and the lines behind it.
+/// The text of a paragraph's first line, and the lines after it.
 fn split_line(text: &str) -> (&str, &str) {
     text.split_once('\n').unwrap_or((text, ""))
 }
 
 impl<'a> Row<'a> {
-    /// The row of a paragraph; None where the paragraph is none.
+    /// The row of a paragraph; None if it isn't one.
     pub fn read(paragraph: &'a str, file: &'a str) -> Option<Row<'a>> {
         let (given, want) = paragraph.split_once("\nwant\n")?;
         let (first, rest) = split_line(given);
@@ -41,7 +41,7 @@ impl<'a> Row<'a> {
         })
     }
 
-    /// What stands behind this word in the first of the given lines that begins with it.
+    /// What follows this word in the first input line that begins with it.
     pub fn told(&self, word: &str) -> Option<&'a str> {
         for line in self.given.split('\n') {
             let (first, rest) = split_word(line);

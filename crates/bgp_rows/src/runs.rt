@@ -1,4 +1,4 @@
-//! Fields of prefixes: the prefixes, and the octets that these are written as (RFC 4271, section 4.3; RFC 4760, section 5).
+//! Fields of prefixes: the prefixes, and the octets that are written for them (RFC 4271, section 4.3; RFC 4760, section 5).
 
 use crate::octets::{Octets, add_given};
 use crate::page::Page;
@@ -18,7 +18,7 @@ fn put_prefixes<T: Display>(alloc: Global, page: &mut Page, prefixes: &[T]) -> R
     Ok(())
 }
 
-/// Why a field is none of prefixes.
+/// Why a field isn't a run of prefixes.
 fn put_fault(alloc: Global, fault: RunFault) -> Result<Page, Trouble> {
     if fault == RunFault::Memory {
         return Err(Trouble::Memory);
@@ -29,7 +29,7 @@ fn put_fault(alloc: Global, fault: RunFault) -> Result<Page, Trouble> {
     Ok(page)
 }
 
-/// Writes IPv4 prefixes, and again where allocation failed.
+/// Writes IPv4 prefixes, and again after a failed allocation.
 fn write4_again(page: &mut Page, prefixes: &[Prefix4], out: &mut Vec<u8>) -> Result<(), Trouble> {
     let before = out.len();
     if write_run4(prefixes, out).is_ok() {
@@ -41,7 +41,7 @@ fn write4_again(page: &mut Page, prefixes: &[Prefix4], out: &mut Vec<u8>) -> Res
     Ok(write_run4(prefixes, out)?)
 }
 
-/// Writes IPv6 prefixes, and again where allocation failed.
+/// Writes IPv6 prefixes, and again after a failed allocation.
 fn write6_again(page: &mut Page, prefixes: &[Prefix6], out: &mut Vec<u8>) -> Result<(), Trouble> {
     let before = out.len();
     if write_run6(prefixes, out).is_ok() {
@@ -53,7 +53,7 @@ fn write6_again(page: &mut Page, prefixes: &[Prefix6], out: &mut Vec<u8>) -> Res
     Ok(write_run6(prefixes, out)?)
 }
 
-/// IPv4 prefixes, and what they are written as.
+/// IPv4 prefixes, and the octets that are written for them.
 fn put_four(alloc: Global, prefixes: &[Prefix4]) -> Result<Page, Trouble> {
     let mut page = Page::new(alloc);
     put_prefixes(alloc, &mut page, prefixes)?;
@@ -63,7 +63,7 @@ fn put_four(alloc: Global, prefixes: &[Prefix4]) -> Result<Page, Trouble> {
     Ok(page)
 }
 
-/// IPv6 prefixes, and what they are written as.
+/// IPv6 prefixes, and the octets that are written for them.
 fn put_sixteen(alloc: Global, prefixes: &[Prefix6]) -> Result<Page, Trouble> {
     let mut page = Page::new(alloc);
     put_prefixes(alloc, &mut page, prefixes)?;
@@ -73,7 +73,7 @@ fn put_sixteen(alloc: Global, prefixes: &[Prefix6]) -> Result<Page, Trouble> {
     Ok(page)
 }
 
-/// The prefixes of a row's octets and what they are written as, or the first fault from the left.
+/// The prefixes of a row's octets and what is written for them, or the first fault from the left.
 pub fn put_run(alloc: Global, row: &Row<'_>) -> Result<Page, Trouble> {
     let mut octets = Octets::new();
     add_given(row, &mut octets)?;

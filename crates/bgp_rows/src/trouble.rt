@@ -2,7 +2,7 @@
 
 use std::alloc::AllocError;
 
-/// Why nothing can be said of a row.
+/// Why a row has no result.
 #[derive(Clone, Copy, Debug, PartialEq, Eq)]
 pub enum Trouble {
     /// The row isn't written as rows are: what is wrong with it.

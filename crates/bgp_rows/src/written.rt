@@ -9,10 +9,10 @@ use bgp_open::Context;
 use bgp_update::WriteFault;
 use std::alloc::Global;
 
-/// What a refused or failed writing left otherwise than it was.
+/// The line for a buffer that a refused or failed write changed.
 pub(crate) const CHANGED: &str = "octets were appended by a call that failed\n";
 
-/// Writes a message, and again where allocation failed.
+/// Writes a message, and again after a failed allocation.
 fn encode_again(
     page: &mut Page,
     ctx: &Context,
@@ -31,7 +31,7 @@ fn encode_again(
     }
 }
 
-/// Adds what was written behind an octet that stays.
+/// Adds what was written after an octet that must not change.
 pub(crate) fn put_behind(alloc: Global, page: &mut Page, out: &[u8]) -> Result<(), Trouble> {
     page.put_digits(alloc, out.get(1..).unwrap_or(&[]))?;
     page.put("\n")
@@ -50,7 +50,7 @@ fn put_refusal(alloc: Global, page: &mut Page, fault: WriteFault) -> Result<(), 
     page.put("\n")
 }
 
-/// The octets that a message is written as, behind an octet that stays, or why it isn't.
+/// The octets that are written for a message, after an octet that must not change, or why it isn't written.
 fn write_message(alloc: Global, ctx: &Context, message: &Message) -> Result<Page, Trouble> {
     let mut page = Page::new(alloc);
     let mut out = Vec::from_slice(alloc, &[7])?;
@@ -79,7 +79,7 @@ fn first_outcome(alloc: Global, ctx: &Context, stream: &[u8]) -> Result<Outcome,
     }
 }
 
-/// The first message of a stream, which is taken.
+/// The first message of a stream, which is accepted.
 pub fn message_of(alloc: Global, ctx: &Context, stream: &[u8]) -> Result<Message, Trouble> {
     match first_outcome(alloc, ctx, stream)? {
         Outcome::Took(message, _notes) => Ok(message),
@@ -87,7 +87,7 @@ pub fn message_of(alloc: Global, ctx: &Context, stream: &[u8]) -> Result<Message
     }
 }
 
-/// What is made of a message where it is written in these contexts: the first outcome that isn't wanted, else the one that is.
+/// The result of writing a message in these contexts: the first that isn't the one wanted, else the one that is.
 fn put_message(
     alloc: Global,
     row: &Row<'_>,
@@ -107,7 +107,7 @@ fn put_message(
     Ok(page)
 }
 
-/// What is made of a message that was read in a context where it is written in those of the row's line `write`.
+/// The result of writing a message, read in a context, in those of the row's line `write`.
 pub fn put_written(
     alloc: Global,
     row: &Row<'_>,

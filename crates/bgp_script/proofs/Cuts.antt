@@ -1,9 +1,9 @@
--- Where a text is cut.
+-- Where a text is split.
 use Rattle.bgp_wire.proofs.Std.{◌≡◌, ℕ, suc, ◌+◌, ◌-◌, ◌<◌, ◌≤◌, Bool, true, false, cond, not, eqb, ltb, List, [], ◌∷◌, length, take, drop, take_all, length-drop, Some, None, refl, sym, subst, ap, ◌∙◌, arith, ltb-true, ltb-false, position, position_or_len, onto_first}
 use Rattle.bgp_script.specs.Lines.{lines_of}
 use Rattle.bgp_script.specs.Pieces.{pieces_at, is_none_left}
 
--- ---- what the place of an octet says
+-- ---- what the index of an octet implies
 
 some_place : (b : Bool) (n i : ℕ) → cond b (Some n) None ≡ Some i → (b ≡ true) × (n ≡ i)
 some_place true n i e = (refl, cc)
@@ -25,7 +25,7 @@ within mark text i e =
 nowhere : (mark : ℕ) (text : List ℕ) → position (is_at mark) text ≡ None → length text ≤ position_or_len (is_at mark) text
 nowhere mark text e = ltb-false (position_or_len (is_at mark) text) (length text) (no_place (ltb (position_or_len (is_at mark) text) (length text)) (position_or_len (is_at mark) text) e)
 
--- ---- a cut of a list into parts, by a function that makes them from the front
+-- ---- a list is split into parts, by a function that takes them from the front
 
 module _ (mark : ℕ) (parts : List ℕ → List (List ℕ)) (step : (c : ℕ) (text : List ℕ) → parts (c ∷ text) ≡ cond (eqb c mark) ([] ∷ parts text) (onto_first c (parts text))) where
   cut_head : (b : Bool) (c : ℕ) (text : List ℕ) (m n : ℕ) → cond (not b) (1 + m) 0 ≡ n → n < suc (length text)
@@ -44,7 +44,7 @@ module _ (mark : ℕ) (parts : List ℕ → List (List ℕ)) (step : (c : ℕ) (
   cut_at [] n e h = absurd (omega arith)
   cut_at (c ∷ text) n e h = step c text ∙ cut_head (eqb c mark) c text (position_or_len (is_at mark) text) n e h (cut_at text (position_or_len (is_at mark) text) refl)
 
-  -- what is left behind a slice to the end
+  -- what is left after a slice to the end
   to_end : (i : ℕ) (text : List ℕ) → take (length text - i) (drop i text) ≡ drop i text
   to_end i text = take_all (length text - i) (drop i text) (omega (arith, length-drop i text))
 

@@ -1,4 +1,4 @@
--- A number is read as it is printed.
+-- A number is read back from its printed form.
 use Rattle.bgp_wire.proofs.Std.{◌≡◌, ℕ, ◌+◌, ◌-◌, ◌*◌, ◌/◌, ◌%◌, ◌^◌, ◌<◌, ◌≤◌, Bool, true, false, cond, not, ◌&&◌, ◌||◌, eqb, leb, List, [], ◌∷◌, ◌++◌, length, append_assoc, Option, Some, None, refl, sym, ap, ◌∙◌, inl, inr, arith, and_parts, and_from, or_cases, or_right, leb-true, le-leb, eqb-false, not-true, not_from_false, cond-true}
 use Rattle.std.proofs.lemmas.Bool.{eqb-true, ne_eqb}
 use Rattle.std.proofs.lemmas.List.{append-nil}
@@ -44,7 +44,7 @@ one_more m d c some small is below =
     let back : 48 + (m * 10 + d) % 10 ≡ c = omega arith in
     decimal_step (m * 10 + d) (omega arith) below ∙ ap (λ (k : ℕ). decimal k ++ ((48 + (m * 10 + d) % 10) ∷ [])) front ∙ ap (λ (k : ℕ). decimal m ++ (k ∷ [])) back
 
--- digits behind those of m
+-- digits after those of m
 behind_decimal : (word : List ℕ) (m n : ℕ) → 0 < m → n < 2 ^ 64 → digits_behind m word ≡ Some n → decimal m ++ word ≡ decimal n
 behind_decimal [] m n some below e = let same : m ≡ n = cc in append-nil (decimal m) ∙ ap decimal same
 behind_decimal (c ∷ word) m n some below e =
@@ -54,7 +54,7 @@ behind_decimal (c ∷ word) m n some below e =
     let step = one_more m digit.0 c some is.1 is.0 (omega (arith, grown)) in
     sym (append_assoc (decimal m) (c ∷ []) word) ∙ ap (λ (front : List ℕ). front ++ word) (sym step) ∙ behind_decimal word (m * 10 + digit.0) n (omega arith) below digit.2
 
--- ---- what is read is printed
+-- ---- what is read is in printed form
 
 spelled_value : (b : Bool) (o : Option ℕ) (n : ℕ) → cond b o None ≡ Some n → (b ≡ true) × (o ≡ Some n)
 spelled_value true o n e = (refl, e)
@@ -89,7 +89,7 @@ printed (c ∷ x ∷ word) n below e =
     let some : 0 < 0 * 10 + digit.0 = omega (arith, other, is.0) in
     ap (λ (front : List ℕ). front ++ (x ∷ word)) (sym (first_digit digit.0 c is.1 is.0)) ∙ behind_decimal (x ∷ word) (0 * 10 + digit.0) n some below digit.2
 
--- ---- what is printed is read
+-- ---- the printed form is read
 
 record ReadsAs (n : ℕ) (word : List ℕ) : Type 0 where
   value : digits_behind 0 word ≡ Some n

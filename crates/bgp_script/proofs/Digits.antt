@@ -1,4 +1,4 @@
--- Digits in turn.
+-- Digits one after another.
 use Rattle.bgp_wire.proofs.Std.{◌≡◌, ℕ, ◌+◌, ◌*◌, ◌<◌, ◌≤◌, Bool, true, false, cond, leb, List, [], ◌∷◌, length, drop, get_or, Option, Some, None, refl, sym, ap, ◌∙◌, arith, lt-leb, le-leb, at_drop_more, at_drop_all}
 use Rattle.bgp_script.specs.Number.{digit_of, digits_behind, at_most}
 use Rattle.bgp_wire.specs.Prelude.{◌>>=◌}
@@ -15,7 +15,7 @@ grow_step : (word : List ℕ) (n most : ℕ) (o : Option ℕ) → ((d : ℕ) →
 grow_step word n most None later = refl
 grow_step word n most (Some d) later = later d
 
--- more digits make a number no smaller
+-- more digits make no smaller number
 grows : (word : List ℕ) (n most : ℕ) → most < n → at_most most (digits_behind n word) ≡ None
 grows [] n most h = above (leb n most) n (lt-leb n most h)
 grows (c ∷ word) n most h = grow_step word n most (digit_of c) (λ d. grows word (n * 10 + d) most (omega arith))

@@ -1,4 +1,4 @@
--- The first line that is no move.
+-- The first line that isn't a move.
 use Rattle.std.proofs.Common.{◌≡◌, ℕ, List, [], ◌∷◌, ◌++◌, Option, Some, None, Result, Ok, Err, refl, sym, ap, ◌∙◌}
 use Rattle.bgp_session.specs.declared.moves.Move.{Move}
 use Rattle.bgp_script.specs.declared.speakers.Speakers.{Speakers}
@@ -8,7 +8,7 @@ use Rattle.bgp_script.specs.Move.{move_of}
 use Rattle.bgp_script.specs.Pieces.{words_of}
 use Rattle.bgp_script.specs.Script.{◌>>=◌, at_line, moves_of}
 
--- the moves of a line and of those behind it
+-- the moves of a line and of those after it
 abbrev both : ℕ → Option Move → Result (List Move) ℕ → Result (List Move) ℕ
 both k first later = at_line k first >>= (λ m. later >>= (λ ms. Ok (m ∷ ms)))
 

@@ -3,7 +3,7 @@ use Rattle.bgp_wire.proofs.Std.{◌≡◌, ℕ, ◌+◌, Bool, true, false, cond
 use Rattle.std.proofs.lemmas.Bool.{eqb-true}
 use Rattle.bgp_script.specs.Lines.{Told, Left, lines_of, is_skipped, told_from, left_behind, first_told, next_told}
 
--- what the next one is, where these lines follow the first n
+-- the next one, where these lines follow the first n
 abbrev next_of : ℕ → List (List ℕ) → Result (Told × Left) ℕ
 next_of n lines = first_told (n + length lines + 1) (told_from (n + 1) lines)
 

@@ -1,4 +1,4 @@
--- The faulty line of a schedule, told without its reading.
+-- The first faulty line of a schedule, defined independently of the reader.
 use Rattle.std.specs.Prelude.{◌≡◌, ℕ, List, ◌∷◌, ◌++◌, None, Ok}
 use Rattle.bgp_session.specs.declared.moves.Move.{Move}
 use Rattle.bgp_script.specs.declared.speakers.Speakers.{Speakers}
@@ -7,7 +7,7 @@ use Rattle.bgp_script.specs.Pieces.{words_of}
 use Rattle.bgp_script.specs.Move.{move_of}
 use Rattle.bgp_script.specs.Script.{moves_of}
 
--- n is the number of the first line that is no move: those in front of it are moves, whatever stands behind it
+-- n is the number of the first line that isn't a move: those before it are moves, whatever follows it
 pub record IsFirstFault (speakers : Speakers) (lines : List Told) (n : ℕ) : Type 0 where
   pub front : List Told
   pub faulty : Told

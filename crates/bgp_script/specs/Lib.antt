@@ -1,4 +1,4 @@
--- Scripts for a pair of speakers, and reports of what came of them.
+-- Scripts for a pair of speakers, and reports of their runs.
 pub mod Lines
 pub mod Pieces
 pub mod Number

@@ -17,7 +17,7 @@ pub record Told : Type 0 where
   pub number : ℕ
   pub line : List ℕ
 
--- those that aren't skipped, where the first line has the number n
+-- the lines that aren't skipped, where the first line has the number n
 abbrev pub told_from : ℕ → List (List ℕ) → List Told
 told_from n [] = []
 told_from n (line ∷ lines) = if is_skipped line then told_from (n + 1) lines else (record { number = n; line = line } ∷ told_from (n + 1) lines)
@@ -27,11 +27,11 @@ pub record Left : Type 0 where
   pub told : List Told
   pub after : ℕ
 
--- all that follow a number of lines
+-- all lines after the first n
 abbrev pub left_behind : ℕ → List ℕ → Left
 left_behind n text = record { told = told_from (n + 1) (lines_of text); after = n + length (lines_of text) + 1 }
 
--- the first line and those behind it: the number of the line after the last where there is none
+-- the first line and those after it: the number of the line after the last if there is none
 abbrev pub first_told : ℕ → List Told → Result (Told × Left) ℕ
 first_told after [] = Err after
 first_told after (t ∷ ts) = Ok (t, record { told = ts; after = after })

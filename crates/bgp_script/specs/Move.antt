@@ -56,14 +56,14 @@ body_of word = do
   body ← result_ok (decode_of word)
   if is_body body then Some body else None
 
--- what is taken without notes
+-- an UPDATE that is accepted without notes
 abbrev pub taken : Verdict → Option Update
 taken (Take update []) = Some update
 taken (Take update (note ∷ notes)) = None
 taken (Withdraw routes notes) = None
 taken (Reset notification) = None
 
--- everything is offered, and the kind of session is that of the speaker
+-- everything is offered, and the session is internal or external as for the speaker
 abbrev pub context_of : Settings → Context
 context_of speaker = record { internal = speaker.local_as == speaker.peer_as; as4 = true; ip4 = true; ip6 = true; hold = 0 }
 
@@ -72,13 +72,13 @@ update_of speaker word = do
   body ← body_of word
   taken (verdict_of (context_of speaker) body)
 
--- ---- the words behind the name of a move
+-- ---- the words after the name of a move
 
 abbrev pub speaker_at : Speakers → Side → Settings
 speaker_at speakers A = speakers.a
 speaker_at speakers B = speakers.b
 
--- from 1 to 65535 octets
+-- a count from 1 to 65535 octets
 abbrev pub deliver_of : List (List ℕ) → Option Move
 deliver_of words = do
   side ← one_side words
@@ -99,7 +99,7 @@ send_of speakers words = do
   update ← update_of (speaker_at speakers side.0) word.0
   if_done word.1 (Move.Send side.0 update)
 
--- the words behind a name, but for `send`
+-- the words after a name other than `send`
 unfoldable pub plain_of : List ℕ → List (List ℕ) → Option Move
 plain_of name words =
     if bytes_eq name (codes "start") then option_map Move.Start (last_side words) else (

@@ -1,4 +1,4 @@
--- The notifications of one side, as a list in a line.
+-- The NOTIFICATIONs of one side, as a list in a line.
 use Rattle.std.specs.Prelude.{ℕ, Bool, true, false, List, [], ◌∷◌, ◌++◌, codes, if◌then◌else◌}
 use Rattle.std.specs.Fmt.{decimal}
 use Rattle.bgp_session.specs.declared.side.Side.{Side}
@@ -23,17 +23,17 @@ own_notes side (note ∷ notes) = if is_same note.0 side then note ∷ own_notes
 abbrev pub note_text : Side × ℕ × ℕ → List ℕ
 note_text note = decimal note.1 ++ (codes "/" ++ decimal note.2)
 
--- what stands in front of a note
+-- the text before a note
 abbrev pub mark_of : Bool → List ℕ
 mark_of true = []
 mark_of false = codes ","
 
--- each behind a comma
+-- each after a comma
 abbrev pub later_notes : List (Side × ℕ × ℕ) → List ℕ
 later_notes [] = []
 later_notes (note ∷ notes) = (codes "," ++ note_text note) ++ later_notes notes
 
--- joined by commas: a dash where there is none
+-- joined by commas: a dash if there is none
 abbrev pub notes_text : List (Side × ℕ × ℕ) → List ℕ
 notes_text [] = codes "-"
 notes_text (note ∷ notes) = note_text note ++ later_notes notes

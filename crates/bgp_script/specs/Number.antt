@@ -17,7 +17,7 @@ digits_behind n (c ∷ word) = do
   digit ← digit_of c
   digits_behind (n * 10 + digit) word
 
--- there are digits, and the first is 0 only where it is the only one
+-- there are digits, and no leading zero
 abbrev pub is_spelled : List ℕ → Bool
 is_spelled [] = false
 is_spelled (c ∷ word) = length word == 0 || not (c == 48)
@@ -32,7 +32,7 @@ at_most most (Some n) = if nat_le n most then Some n else None
 abbrev pub number_up_to : ℕ → List ℕ → Option ℕ
 number_up_to most word = at_most most (number_of word)
 
--- ---- in front of other pieces
+-- ---- before other pieces
 
 abbrev pub one_number : ℕ → List (List ℕ) → Option (ℕ × List (List ℕ))
 one_number most [] = None
@@ -40,7 +40,7 @@ one_number most (piece ∷ pieces) = do
   n ← number_up_to most piece
   Some (n, pieces)
 
--- a number behind a word
+-- a number after a word
 abbrev pub number_behind : List ℕ → ℕ → List (List ℕ) → Option (ℕ × List (List ℕ))
 number_behind word most pieces = do
   numbers ← behind word pieces
@@ -55,7 +55,7 @@ address_of word = do
   d ← one_number 255 c.1
   if_done d.1 (a.0 ∷ b.0 ∷ c.0 ∷ d.0 ∷ [])
 
--- an address behind a word
+-- an address after a word
 abbrev pub address_behind : List ℕ → List (List ℕ) → Option (List ℕ × List (List ℕ))
 address_behind word pieces = do
   addresses ← behind word pieces

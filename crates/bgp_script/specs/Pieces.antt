@@ -6,22 +6,22 @@ use Rattle.std.specs.List.{slice_split}
 abbrev pub pieces_at : ℕ → List ℕ → List (List ℕ)
 pieces_at mark text = slice_split (λ c. c == mark) text
 
--- words are joined by one space
+-- words are separated by one space
 abbrev pub words_of : List ℕ → List (List ℕ)
 words_of line = pieces_at 32 line
 
--- ---- the piece in front, and those behind it
+-- ---- the first piece, and those after it
 
 abbrev pub one_piece : List (List ℕ) → Option (List ℕ × List (List ℕ))
 one_piece [] = None
 one_piece (piece ∷ pieces) = Some (piece, pieces)
 
--- the pieces behind this word
+-- the pieces after this word
 abbrev pub behind : List ℕ → List (List ℕ) → Option (List (List ℕ))
 behind word [] = None
 behind word (piece ∷ pieces) = if bytes_eq piece word then Some pieces else None
 
--- whether the first piece is this word, and the pieces behind it if it is
+-- whether the first piece is this word, and the pieces after it if it is
 abbrev pub one_flag : List ℕ → List (List ℕ) → Bool × List (List ℕ)
 one_flag word [] = (false, [])
 one_flag word (piece ∷ pieces) = if bytes_eq piece word then (true, pieces) else (false, piece ∷ pieces)
@@ -30,6 +30,6 @@ abbrev pub is_none_left : List (List ℕ) → Bool
 is_none_left [] = true
 is_none_left (piece ∷ pieces) = false
 
--- a value, where no piece is left
+-- a value, if no piece is left
 abbrev pub if_done : {A : Type 0} → List (List ℕ) → A → Option A
 if_done pieces x = if is_none_left pieces then Some x else None

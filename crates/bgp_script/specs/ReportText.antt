@@ -10,7 +10,7 @@ use Rattle.bgp_session.specs.declared.side.Side.{Side}
 use Rattle.bgp_session.specs.declared.side.Side.TheVariants.{A, B}
 use Rattle.bgp_script.specs.NoteList.{side_name, own_notes, notes_text}
 
--- how many UPDATEs a side sent, how many were announced to it, how many messages took routes from it, and what it sent in notifications
+-- the number of UPDATEs that a side sent, of those announced to it, of messages to it that were treated as withdrawals, and its NOTIFICATIONs
 abbrev pub side_line : Side → ℕ → ℕ → ℕ → List (Side × ℕ × ℕ) → List ℕ
 side_line side sent got gone notes =
     (side_name side ++ (codes " sent " ++ (decimal sent ++ (codes " got " ++ (decimal got ++ (codes " gone " ++ (decimal gone ++ codes " notes ")))))))

@@ -9,7 +9,7 @@ use Rattle.bgp_script.specs.Pieces.{words_of}
 use Rattle.bgp_script.specs.Speaker.{speaker_of}
 use Rattle.bgp_script.specs.Move.{move_of}
 
--- the next step at what one gave, or the number of the faulty line
+-- the second step, applied to the result of the first, or the number of the faulty line
 infixl 10 ◌>>=◌
 abbrev pub ◌>>=◌ : {A B : Type 0} → Result A ℕ → (A → Result B ℕ) → Result B ℕ
 Ok x >>= f = f x
@@ -20,7 +20,7 @@ abbrev pub at_line : {A : Type 0} → ℕ → Option A → Result A ℕ
 at_line n None = Err n
 at_line n (Some x) = Ok x
 
--- the speaker of the next line, and the lines behind it
+-- the speaker of the next line, and the lines after it
 abbrev pub next_speaker : List ℕ → Left → Result (Settings × Left) ℕ
 next_speaker side left = do
   next ← next_told left

@@ -1,4 +1,4 @@
--- The printed form of what comes of a move.
+-- The printed form of a move's outcome.
 use Rattle.std.specs.Prelude.{ℕ, List, [], ◌∷◌, ◌++◌, Option, None, Some, codes}
 use Rattle.std.specs.Fmt.{decimal}
 use Rattle.std.specs.List.{flat_map}
@@ -47,11 +47,11 @@ action_words (Action.Announce u info) = codes "announce"
 action_words (Action.Withdraw routes) = codes "withdraw"
 action_words Action.Flush = codes "flush"
 
--- each behind a semicolon
+-- each after a semicolon
 abbrev pub behind_semicolon : Action → List ℕ
 behind_semicolon a = codes "; " ++ action_words a
 
--- what came to a side, the state of its session behind that, and what the session wants done
+-- the event at a side, the state of its session after that, and the actions of the session
 abbrev pub step_line : Side → List ℕ → State → List Action → List ℕ
 step_line side cause st actions =
     (side_name side ++ (codes " " ++ (cause ++ (codes ": " ++ state_name st)))) ++ (flat_map behind_semicolon actions ++ 10 ∷ [])
@@ -63,12 +63,12 @@ event_words Event.Connected = codes "connected"
 event_words Event.Failed = codes "failed"
 event_words (Event.Expired timer) = codes "expired " ++ timer_name timer
 
--- it sent an UPDATE, or didn't: why has a number as in a report
+-- it sent an UPDATE, or why not, with the number that a report has for that
 abbrev pub tried_words : Option SendFault → List ℕ
 tried_words None = codes "sends"
 tried_words (Some fault) = codes "refused " ++ decimal (fault_number fault)
 
--- it heard the message of which the lines stand before this
+-- it received the message whose lines precede this one
 abbrev pub heard_words : List ℕ
 heard_words = codes "heard"
 

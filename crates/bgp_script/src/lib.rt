@@ -1,4 +1,4 @@
-//! Scripts for a pair of speakers, and the printed form of their reports and of what comes of each move.
+//! Scripts for a pair of speakers, and the printed form of their reports and of each move's outcome.
 #![tactic(auto)]
 
 mod cut;

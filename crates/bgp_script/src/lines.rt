@@ -18,7 +18,7 @@ pub(crate) struct Line<'a> {
 /// The lines that are left, without those that are skipped.
 #[derive(Drop)]
 pub(crate) struct Lines<'a> {
-    /// How many lines were read.
+    /// The number of lines read.
     count: u32,
     rest: &'a [u8],
 }
@@ -61,10 +61,10 @@ impl<'a> Lines<'a> {
         }
     }
 
-    /// Takes the next line.
+    /// Reads the next line.
     ///
     /// # Errors
-    /// The number of the line after the last, where none is left.
+    /// The number of the line after the last, if none is left.
     pub(crate) fn take(&mut self) -> Result<Line<'a>, u32>
         ensures { result_map_both (λ line. (line_value line, self.new)) (λ number. number) result ≡ next_told self.old }
     {

@@ -82,7 +82,7 @@ fn read_expire(words: &mut Pieces<'_>) -> Option<Move>
     }
 }
 
-// The words behind `send`.
+// The words after `send`.
 fn read_send(
     alloc: Global,
     speakers: &Speakers,
@@ -106,14 +106,14 @@ fn read_send(
     }
 }
 
-// A move that stands alone.
+// A move without further words.
 fn alone(words: &Pieces<'_>, alone: Move) -> Option<Move>
     ensures { result ≡ if_done words.now alone }
 {
     if words.is_done() { Some(alone) } else { None }
 }
 
-// The words behind any other name.
+// The words after any other name.
 #[tactic(auto, unfolding(crate::specs::Move::plain_of))]
 fn read_plain(name: &[u8], words: &mut Pieces<'_>) -> Option<Move>
     ensures { result ≡ plain_of name.now words.old }
@@ -137,7 +137,7 @@ fn read_plain(name: &[u8], words: &mut Pieces<'_>) -> Option<Move>
     }
 }
 
-/// The move of a line: None where the line is at fault.
+/// The move of a line: None if the line is faulty.
 #[tactic(auto, unfolding(crate::specs::Move::move_of))]
 pub(crate) fn read_move(
     alloc: Global,

@@ -1,4 +1,4 @@
-//! The notifications of one side, as a list in a line.
+//! The NOTIFICATIONs of one side, as a list in a line.
 
 ghost use Rattle.std.specs.Prelude.{◌≡◌, ◌++◌, OnOk, codes};
 ghost use Rattle.std.specs.Fmt.{decimal};
@@ -27,7 +27,7 @@ fn is_same(side: Side, other: Side) -> bool
     }
 }
 
-// Adds a notification, behind a comma where it isn't the first.
+// Adds a NOTIFICATION, after a comma if it isn't the first.
 fn put_note(text: &mut String, is_first: bool, code: u8, subcode: u8) -> Result<(), AllocError>
     ensures { OnOk result (string_bytes text.new ≡ string_bytes text.old ++ (mark_of is_first ++ (decimal code ++ (codes "/" ++ decimal subcode)))) }
 {
@@ -35,7 +35,7 @@ fn put_note(text: &mut String, is_first: bool, code: u8, subcode: u8) -> Result<
     write!(text, "{mark}{code}/{subcode}")
 }
 
-/// Adds the notifications that this side sent, joined by commas: a dash where there is none.
+/// Adds the NOTIFICATIONs that this side sent, joined by commas: a dash if there is none.
 pub(crate) fn put_notes(
     text: &mut String,
     side: Side,

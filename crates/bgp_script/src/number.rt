@@ -16,7 +16,7 @@ fn digit_value(octet: u8) -> Option<u8>
     }
 }
 
-// Whether there are digits at all, without a leading zero.
+// Whether there are digits, without a leading zero.
 fn is_spelled(word: &[u8]) -> bool
     ensures { result ≡ is_spelled word.now }
 {

@@ -37,7 +37,7 @@ impl<'a> Pieces<'a> {
         }
     }
 
-    /// What stands between the dots of a word.
+    /// The parts between the dots of a word.
     pub(crate) fn between_dots(word: &'a [u8]) -> Pieces<'a>
         ensures { result ≡ pieces_at 46 word.now }
     {
@@ -55,7 +55,7 @@ impl<'a> Pieces<'a> {
         self.rest.is_none()
     }
 
-    /// Takes the next piece.
+    /// Reads the next piece.
     pub(crate) fn take(&mut self) -> Option<&'a [u8]>
         ensures { option_map (λ piece. (piece.now, self.new)) result ≡ one_piece self.old }
     {
@@ -64,7 +64,7 @@ impl<'a> Pieces<'a> {
         Some(piece)
     }
 
-    /// Takes the next piece where it is this word, and answers whether it is.
+    /// Reads the next piece if it is this word, and returns whether it is.
     pub(crate) fn take_flag(&mut self, word: &[u8]) -> bool
         ensures { (result, self.new) ≡ one_flag word.now self.old }
     {
@@ -79,14 +79,14 @@ impl<'a> Pieces<'a> {
         is_there
     }
 
-    /// Takes the next piece, which has to be this word.
+    /// Reads the next piece, which must be this word.
     pub(crate) fn take_word(&mut self, word: &[u8]) -> Option<()>
         ensures { option_map (λ _. self.new) result ≡ behind word.now self.old }
     {
         if self.take_flag(word) { Some(()) } else { None }
     }
 
-    /// Takes a number.
+    /// Reads a number.
     pub(crate) fn take_number(&mut self, most: u32) -> Option<u32>
         ensures number { option_map (λ number. (number, self.new)) result ≡ one_number most self.old }
         ensures fits { IfSome result (λ number. number ≤ most) }
@@ -95,7 +95,7 @@ impl<'a> Pieces<'a> {
         read_number(piece, most)
     }
 
-    /// Takes a number behind a word.
+    /// Reads a number after a word.
     pub(crate) fn take_number_behind(&mut self, word: &[u8], most: u32) -> Option<u32>
         ensures number { option_map (λ number. (number, self.new)) result ≡ number_behind word.now most self.old }
         ensures fits { IfSome result (λ number. number ≤ most) }
@@ -104,7 +104,7 @@ impl<'a> Pieces<'a> {
         self.take_number(most)
     }
 
-    /// Takes an address behind a word.
+    /// Reads an address after a word.
     pub(crate) fn take_address_behind(&mut self, word: &[u8]) -> Option<[u8; 4]>
         ensures { option_map (λ address. (address, self.new)) result ≡ address_behind word.now self.old }
     {

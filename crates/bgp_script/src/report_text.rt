@@ -111,11 +111,11 @@ fn put_state(text: &mut String, side: Side, state: State) -> Result<(), AllocErr
     write!(text, "state {name} {state}\n")
 }
 
-/// Adds the printed form of a report: for each round `round N` and a line for each side, then the UPDATEs that weren't sent, then where both
-/// sides stand.
+/// Adds the printed form of a report: for each round `round N` and a line for each side, then the UPDATEs that weren't sent, then the
+/// states of both sides.
 ///
 /// # Errors
-/// `AllocError` where an allocation failed: the first lines may stand then.
+/// `AllocError` where an allocation failed: the first lines may remain.
 pub fn put_report(text: &mut String, report: &Report) -> Result<(), AllocError>
     ensures { OnOk result (string_bytes text.new ≡ string_bytes text.old ++ report_text report.now) }
 {

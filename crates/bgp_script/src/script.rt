@@ -15,15 +15,15 @@ use bgp_session::Move;
 use bgp_wire::List;
 use std::alloc::Global;
 
-/// The most octets that a script may have.
+/// The greatest length of a script in octets.
 pub const SCRIPT_MAX: usize = 1_048_576;
 
 /// Two speakers, and the moves of a schedule.
 #[derive(Drop)]
 pub struct Script {
-    /// What the speaker A is set to.
+    /// The settings of speaker A.
     pub a: Config,
-    /// What the speaker B is set to.
+    /// The settings of speaker B.
     pub b: Config,
     /// The moves, in the order of their lines.
     pub moves: List<Move>,

@@ -8,7 +8,7 @@ use std::alloc::AllocError;
 /// What is wrong with a script.
 #[derive(Clone, Copy, Debug, PartialEq, Eq)]
 pub enum ScriptFault {
-    /// This line is the first that is at fault, counted from 1: where a speaker is missing, the line after the last.
+    /// The first faulty line, counted from 1: where a speaker is missing, the line after the last.
     Line(u32),
     /// An allocation failed.
     Memory,

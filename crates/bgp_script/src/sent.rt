@@ -10,7 +10,7 @@ use bgp_update::{Update, Verdict, read_update};
 use hex::FromHexError;
 use std::alloc::{AllocError, Global};
 
-// An UPDATE that is taken without notes.
+// An UPDATE that is accepted without notes.
 fn taken(verdict: Verdict) -> Option<Update>
     ensures { result ≡ taken verdict }
 {
@@ -20,7 +20,7 @@ fn taken(verdict: Verdict) -> Option<Update>
     }
 }
 
-// The octets of a body, where it has as many as one may have.
+// The octets of a body, if its length is allowed.
 fn read_body(alloc: Global, word: &[u8]) -> Result<Option<Vec<u8>>, AllocError>
     ensures { IfOk result (λ body. option_map (λ b. b.items) body ≡ body_of word.now) }
 {
@@ -32,7 +32,7 @@ fn read_body(alloc: Global, word: &[u8]) -> Result<Option<Vec<u8>>, AllocError>
     }
 }
 
-/// The UPDATE that a speaker sends: None where the word spells none.
+/// The UPDATE that a speaker sends: None if the word spells none.
 #[tactic(auto, unfolding(crate::specs::Move::update_of))]
 pub(crate) fn read_sent(
     alloc: Global,

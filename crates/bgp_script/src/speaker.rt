@@ -28,7 +28,7 @@ fn read_flags(words: &mut Pieces<'_>) -> Option<Flags>
     }
 }
 
-// What a speaker is set to, in the words behind its side.
+// The settings of a speaker, in the words after its side.
 #[tactic(auto, unfolding(crate::specs::Speaker::settings_of))]
 fn read_settings(words: &mut Pieces<'_>) -> Option<Config>
     ensures { result ≡ settings_of words.old }
@@ -41,7 +41,7 @@ fn read_settings(words: &mut Pieces<'_>) -> Option<Config>
     Config::new(local_as, peer_as, id, hold as u16, as4, ip4, ip6).ok()
 }
 
-/// The speaker of a line: None where the line is at fault.
+/// The speaker of a line: None if the line is faulty.
 pub(crate) fn read_speaker(side: &[u8], line: &[u8]) -> Option<Config>
     ensures { result ≡ speaker_of side.now (words_of line.now) }
 {

@@ -1,4 +1,4 @@
-//! The printed form of what comes of a move.
+//! The printed form of a move's outcome.
 
 ghost use Rattle.std.specs.Prelude.{◌≡◌, ◌++◌, codes, OnOk, IfOk};
 ghost use Rattle.std.specs.List.{flat_map};
@@ -53,10 +53,10 @@ fn put_move_words(text: &mut String, one: &Move) -> Result<(), AllocError>
     }
 }
 
-/// Adds the line of a move: `move`, and its words as a script has them, but for the octets of an UPDATE.
+/// Adds the line of a move: `move`, and its words as in a script, without the octets of an UPDATE.
 ///
 /// # Errors
-/// `AllocError` where an allocation failed: a part of the line may stand then.
+/// `AllocError` where an allocation failed: a part of the line may remain.
 pub fn put_move(text: &mut String, one: &Move) -> Result<(), AllocError>
     ensures { OnOk result (string_bytes text.new ≡ string_bytes text.old ++ move_line one.now) }
 {
@@ -65,7 +65,7 @@ pub fn put_move(text: &mut String, one: &Move) -> Result<(), AllocError>
     text.push_str("\n")
 }
 
-// Adds what a session wants done.
+// Adds an action of a session.
 fn put_action(text: &mut String, action: &Action) -> Result<(), AllocError>
     ensures { OnOk result (string_bytes text.new ≡ string_bytes text.old ++ action_words action.now) }
 {
@@ -93,7 +93,7 @@ fn put_action(text: &mut String, action: &Action) -> Result<(), AllocError>
     }
 }
 
-// Adds it behind a semicolon.
+// Adds it after a semicolon.
 fn put_behind_semicolon(text: &mut String, action: &Action) -> Result<(), AllocError>
     ensures { OnOk result (string_bytes text.new ≡ string_bytes text.old ++ behind_semicolon action.now) }
 {
@@ -101,7 +101,7 @@ fn put_behind_semicolon(text: &mut String, action: &Action) -> Result<(), AllocE
     put_action(text, action)
 }
 
-// Adds all that a session wants done.
+// Adds all actions of a session.
 fn put_actions(text: &mut String, actions: &[Action]) -> Result<(), AllocError>
     ensures { OnOk result (string_bytes text.new ≡ string_bytes text.old ++ flat_map behind_semicolon actions.now) }
 {
@@ -111,7 +111,7 @@ fn put_actions(text: &mut String, actions: &[Action]) -> Result<(), AllocError>
     Ok(())
 }
 
-// Adds the line of what came to a side.
+// Adds the line of an event at a side.
 fn put_step(
     text: &mut String,
     side: Side,
@@ -128,7 +128,7 @@ fn put_step(
     text.push_str("\n")
 }
 
-// What happened, in words.
+// The event, in words.
 fn event_words(event: Event) -> &'static str
     ensures { result.now ≡ event_words event }
 {
@@ -143,10 +143,10 @@ fn event_words(event: Event) -> &'static str
     }
 }
 
-/// Adds the line of an event that was told to a side: the side, what happened, the state behind it and what the session wants done.
+/// Adds the line of an event at a side: the side, the event, the state after it and the actions of the session.
 ///
 /// # Errors
-/// `AllocError` where an allocation failed: a part of the line may stand then.
+/// `AllocError` where an allocation failed: a part of the line may remain.
 pub fn put_event(
     text: &mut String,
     side: Side,
@@ -159,10 +159,10 @@ pub fn put_event(
     put_step(text, side, event_words(event), state, actions)
 }
 
-/// Adds the line of a message that a side heard, behind the lines of the message itself.
+/// Adds the line of a message that a side received, after the lines of the message itself.
 ///
 /// # Errors
-/// `AllocError` where an allocation failed: a part of the line may stand then.
+/// `AllocError` where an allocation failed: a part of the line may remain.
 pub fn put_heard(
     text: &mut String,
     side: Side,
@@ -174,7 +174,7 @@ pub fn put_heard(
     put_step(text, side, "heard", state, actions)
 }
 
-// What came of an UPDATE that was to be sent, in words.
+// The outcome of an UPDATE that was to be sent, in words.
 fn tried_words(alloc: Global, fault: Option<SendFault>) -> Result<String, AllocError>
     ensures { IfOk result (λ text. string_bytes text ≡ tried_words fault) }
 {
@@ -187,10 +187,10 @@ fn tried_words(alloc: Global, fault: Option<SendFault>) -> Result<String, AllocE
     }
 }
 
-/// Adds the line of an UPDATE that a side was to send: that it sends it, or why it doesn't, with the number of a report.
+/// Adds the line of an UPDATE that a side was to send: that it sends it, or why it doesn't, with the number that a report has for that.
 ///
 /// # Errors
-/// `AllocError` where an allocation failed: a part of the line may stand then.
+/// `AllocError` where an allocation failed: a part of the line may remain.
 pub fn put_tried(
     alloc: Global,
     text: &mut String,

@@ -1,9 +1,9 @@
--- What acting leaves as it is, and in which order it can be done.
+-- What acting leaves unchanged, and in which order it can be done.
 use Rattle.bgp_session.proofs.Prelude.{◌≡◌, List, [], ◌∷◌, ◌++◌, refl, sym, ap, ◌∙◌, Settings, Action, Machine, own_octets, Side, with_machine, with_session}
 use Rattle.bgp_session.proofs.Prelude.{towards, Pair, pair, acted, all_acted}
 
 module _ (side : Side) where
-  -- the session can be changed before or behind, where its settings stay
+  -- the session can be replaced before or after, where its settings stay
   acted_moves : (p : Pair) (x : Machine) (a : Action) → x.settings ≡ p.this.session.settings → acted side (with_machine p x) a ≡ with_machine (acted side p a) x
   acted_moves p x Action.Connect same = refl
   acted_moves p x Action.Close same = refl
@@ -16,7 +16,7 @@ module _ (side : Side) where
   acted_moves p x (Action.Withdraw routes) same = refl
   acted_moves p x Action.Flush same = refl
 
-  -- so it stays as it is
+  -- acting leaves the session unchanged
   acted_keeps : (p : Pair) (a : Action) → (acted side p a).this.session ≡ p.this.session
   acted_keeps p a = ap (λ (q : Pair). q.this.session) (acted_moves p p.this.session a refl)
 

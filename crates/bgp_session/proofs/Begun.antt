@@ -6,7 +6,7 @@ use Rattle.bgp_session.proofs.Prelude.{with_pair, tells, feeds, stands, tells_if
 use Rattle.bgp_session.proofs.Prelude.{answer_of, later_of, can_join, joins, joined_if, delivers_on, delivered, drawn, delivers, sent_or, sends, moved}
 use Rattle.bgp_session.proofs.Prelude.{all_moved}
 
--- an end that hasn't left behind it had not before
+-- an end that hasn't left after it hadn't left before it
 pub record Stays (p q : Pair) : Type 0 where
   pub this : q.this.left ≡ false → p.this.left ≡ false
   pub other : q.other.left ≡ false → p.other.left ≡ false

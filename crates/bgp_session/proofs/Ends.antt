@@ -1,4 +1,4 @@
--- Two ends of a connection: what is kept of both, and how one of them leaves.
+-- Two ends of a connection: the invariant of both, and how one of them leaves.
 use Rattle.bgp_session.proofs.Prelude.{◌≡◌, ℕ, Bool, true, false, not, List, [], ◌∷◌, ◌++◌, Option, None, Some, Ok, refl, sym, ap, subst, ◌∙◌, AllByRecursion}
 use Rattle.bgp_session.proofs.Prelude.{append-nil, all_push, Notification, Context, agreement, Settings, own_of, Action, State, Timers, listens, only_if}
 use Rattle.bgp_session.proofs.Prelude.{disarmed, flushed, PathInfo, Update, Side, End, with_session, away, towards, Note, Pair, pair, notification_octets}
@@ -7,9 +7,9 @@ use Rattle.bgp_session.proofs.Facts.{notification_spelled}
 use Rattle.bgp_session.proofs.Sayings.{SaidNotification, Stage, next, EndsAt, Ended}
 use Rattle.bgp_session.proofs.Ways.{IsDeaf, Goes, front_of, sender_goes, sender_says}
 
--- ---- what is kept
+-- ---- the invariant
 
--- the context is what was agreed on with what the other says of itself
+-- the context is what was agreed on with the other's OPEN
 pub record IsAgreed (mine theirs : Settings) (ctx : Option Context) : Type 0 where
   pub agreed : Context
   pub is : ctx ≡ Some agreed
@@ -26,12 +26,12 @@ pub record IsEnd (mine theirs : Settings) (e : End) : Type 0 where
   pub left : e.left ≡ not (listens e.session.standing.state)
   pub none_gone : e.gone ≡ []
 
--- the way from a sender to a hearer, with some octets in hand
+-- the direction from a sender to a receiver, with some octets in hand
 abbrev pub Way : Bool → Settings → Settings → List ℕ → End → End → Type 0
 Way wide s t hand sender hearer =
     Goes wide s t hearer.session.standing.state hearer.session.held hand hearer.flight sender.session.standing.state sender.sent hearer.got
 
--- both ends, both ways, and each note is one that is allowed. Some octets towards the end that acts can be in hand
+-- both ends, both directions, and each note is one that is allowed. Some octets towards the end that acts can be in hand
 pub record IsSound (wide : Bool) (mine theirs : Settings) (allowed : Note → Type 0) (hand : List ℕ) (p : Pair) : Type 0 where
   pub this : IsEnd mine theirs p.this
   pub other : IsEnd theirs mine p.other
@@ -54,7 +54,7 @@ module _ (side : Side) (P : Pair → Type 0) where
   flushes State.OpenSent p h = h
   flushes State.OpenConfirm p h = h
 
-  -- timers are disarmed, and the routes are gone
+  -- timers are disarmed, and the routes are flushed
   pub quietly : (t : Timers) (st : State) (p : Pair) → P p → P (all_acted side p (disarmed t ++ flushed st))
   quietly t st p h = by t.retry t.hold t.keepalive
     where
@@ -77,7 +77,7 @@ module _ (side : Side) (P : Pair → Type 0) where
 
 -- ---- states
 
--- a state in which a session takes no octets
+-- a state in which a session accepts no octets
 pub record IsOut (st : State) : Type 0 where
   pub deaf : listens st ≡ false
   pub context : (mine theirs : Settings) → HasContext mine theirs st None
@@ -97,7 +97,7 @@ connect_out = record { deaf = refl; context = λ mine theirs. refl; way = λ wid
 pub active_out : IsOut State.Active
 active_out = record { deaf = refl; context = λ mine theirs. refl; way = λ wide s t held hand flight sender sent got d. d; back = λ wide s t held hand flight sender sent got d. d; none = λ mine theirs ctx is. is; ends = λ last. tt }
 
--- where it takes octets, it has said something that a NOTIFICATION can follow
+-- where it accepts octets, it has sent something that a NOTIFICATION can follow
 abbrev pub CanNotify : State → Type 0
 CanNotify st = (last : Stage) → EndsAt st last → (why : Notification) → next last (SaidNotification why) ≡ Some Ended
 
@@ -142,7 +142,7 @@ module _ (wide : Bool) (mine theirs : Settings) (allowed : Note → Type 0) (sid
   Sound hand p = IsSound wide mine theirs allowed hand p
 
   module _ (old : State) (running : Timers) (hand : List ℕ) (s : Sound hand (pair (in_state e old running) other notes)) where
-    -- timers are no matter
+    -- timers don't matter
     pub retimed : (now : Timers) → Sound hand (pair (in_state e old now) other notes)
     retimed now = record {
       this = record { settings = s.this.settings; context = s.this.context; left = s.this.left; none_gone = s.this.none_gone };
@@ -168,11 +168,11 @@ module _ (wide : Bool) (mine theirs : Settings) (allowed : Note → Type 0) (sid
       other_way =
           sender_goes wide mine theirs other.session.standing.state other.session.held [] other.flight old new e.sent other.got (λ last ends. out.ends last) s.to_other
 
-      -- it leaves and says nothing
+      -- it leaves and sends nothing
       pub leaves : Sound in_hand (pair (gone_to e new now) other notes)
       leaves = record { this = gone_end; other = s.other; to_this = gone_way; to_other = other_way; notes = s.notes }
 
-      -- it says why, and leaves
+      -- it sends a NOTIFICATION, and leaves
       pub notifies : (why : Notification) → CanNotify old → why.info.items ≡ [] → allowed (note_of side why)
           → Sound in_hand (pair (gone_to e new now) (towards other (notification_octets why)) (notes ++ note_of side why ∷ []))
       notifies why can short may = record {

@@ -1,4 +1,4 @@
--- An event keeps what is kept of two ends.
+-- An event keeps the invariant of two ends.
 use Rattle.bgp_session.proofs.Prelude.{Bool, true, false, List, [], ◌∷◌, ◌++◌, ℕ, None, ◌≡◌, refl, sym, ap, if◌then◌else◌, append-nil, Notification, Settings}
 use Rattle.bgp_session.proofs.Prelude.{Event, State, Timer, Timers, kept, listens, runs, timers_with, Step, disarmed, flushed, cease, held_too_long, Side}
 use Rattle.bgp_session.proofs.Prelude.{End, with_session, away, towards, keepalive_octets, notification_octets, Note, Pair, pair, note_of, all_acted, told}
@@ -7,14 +7,14 @@ use Rattle.bgp_session.proofs.Sayings.{SaidKeepalive, Stage, next, EndsAt, Runs}
 use Rattle.bgp_session.proofs.Ways.{MaySay, sender_says}
 use Rattle.bgp_session.proofs.Ends.{IsSound, quietly, idle_out, connect_out, active_out, CanNotify, sent_notifies, confirm_notifies, established_notifies, IsOut, in_state, gone_to, idle_in, retimed, leaves, notifies, leaves_none, stays_out}
 
--- which notes an event may lead to. Connections come otherwise
+-- which notes an event may lead to. Connections are separate
 abbrev pub MayNote : (Note → Type 0) → Side → Event → Type 0
 MayNote allowed side Event.Connected = ⊥
 MayNote allowed side Event.Stop = allowed (note_of side cease)
 MayNote allowed side (Event.Expired Timer.Hold) = allowed (note_of side held_too_long)
 MayNote allowed side _ = Unit {0}
 
--- a KEEPALIVE may be said once the other's OPEN was accepted
+-- a KEEPALIVE may be sent once the other's OPEN was accepted
 confirm_says : (last : Stage) → EndsAt State.OpenConfirm last → MaySay State.OpenConfirm State.OpenConfirm SaidKeepalive last
 confirm_says last is = record { behind = Runs; is_next = ap (λ (st : Stage). next st SaidKeepalive) is; ends = refl }
 
@@ -59,7 +59,7 @@ module _ (wide : Bool) (mine theirs : Settings) (allowed : Note → Type 0) (sid
     notes = was.notes;
   }
 
-  -- timers are disarmed behind it
+  -- timers are disarmed after it
   hush : (t : Timers) (st : State) (p : Pair) → Sound p → Sound (all_acted side p (disarmed t ++ flushed st))
   hush t st p is = quietly side Sound t st p is
 
@@ -97,14 +97,14 @@ module _ (wide : Bool) (mine theirs : Settings) (allowed : Note → Type 0) (sid
   abbrev stopped : Timer → Timers
   stopped t = timers_with t false running
 
-  -- what a step makes of the pair
+  -- the pair after a step
   abbrev by_step : State → Step → Pair
   by_step st step =
       all_acted side
       (pair (with_session e (record { settings = e.session.settings; standing = step.next; held = kept (listens step.next.state) e.session.held })) other notes)
       step.actions
 
-  -- it runs, or nothing happens
+  -- the timer runs, or nothing happens
   if_runs : (b : Bool) (st : State) (x y : Step) → Sound (by_step st x) → Sound (by_step st y) → Sound (by_step st (if b then x else y))
   if_runs true st x y p q = p
   if_runs false st x y p q = q
@@ -147,7 +147,7 @@ module _ (wide : Bool) (mine theirs : Settings) (allowed : Note → Type 0) (sid
   keeps_at st Event.Failed was may = failed_keeps st was
   keeps_at st (Event.Expired t) was may = expired_keeps st t was may
 
--- an event other than a connection keeps what is kept
+-- an event other than a connection keeps the invariant
 pub event_keeps : (wide : Bool) (mine theirs : Settings) (allowed : Note → Type 0) (side : Side) (hand : List ℕ) (p : Pair) (e : Event)
     → IsSound wide mine theirs allowed hand p → MayNote allowed side e → IsSound wide mine theirs allowed hand (told side p e)
 event_keeps wide mine theirs allowed side hand p e was may =

@@ -1,4 +1,4 @@
--- What two ends need to know of what is below them: how messages are spelled and read, and what both agree on.
+-- Facts on the layers below that two ends need: how messages are written and read, and what both agree on.
 use Rattle.bgp_session.proofs.Prelude.{◌≡◌, ℕ, ◌+◌, ◌≤◌, Bool, true, false, List, [], ◌∷◌, ◌++◌, length, Option, None, Some, Ok, refl, ap, ◌∙◌, arith}
 use Rattle.bgp_session.proofs.Prelude.{ltb-false, Notification, Kind, Message, octets_of, IsFrame, IsLength, length-octets_of, Context, Settings, IsOpen}
 use Rattle.bgp_session.proofs.Prelude.{reading_of, field_for, offered, own_of, why_unsent, told_with, told_in, told_octets, is_told_too_long, own_octets}
@@ -20,8 +20,10 @@ use Rattle.bgp_update.proofs.Narrowing.{narrowed-rebuilt}
 use Rattle.bgp_update.proofs.ReadBack.{valid-taken}
 use Rattle.bgp_session.proofs.Narrowed.{narrowed_ranges}
 use Rattle.bgp_session.proofs.Sayings.{Said, SaidOpen, SaidKeepalive, SaidNotification, SaidUpdate, open_body, notification_body, update_body, message_of, spelling, IsTold, Fits}
+use Rattle.bgp_frame.specs.Kind.{plain}
+use Rattle.bgp_frame.specs.steps.AreTypes.{plain-are}
 
--- ---- how it is spelled
+-- ---- how it is written
 
 pub open_spelled : (s : Settings) → own_octets s ≡ spelling s SaidOpen
 unfolding own_octets open_body spelling
@@ -58,11 +60,11 @@ own_length p q r n field hold (a ∷ b ∷ []) four = absurd (omega arith)
 own_length p q r n field hold (a ∷ b ∷ c ∷ []) four = absurd (omega arith)
 own_length p q r n field hold (a ∷ b ∷ c ∷ d ∷ e ∷ id) four = absurd (omega arith)
 
--- octets of a message are its frame, by how long its body is
+-- octets of a message are its frame, by the length of its body
 frame_of : (m : Message) → IsLength m.kind (19 + length m.body) → IsFrame m (octets_of m)
 frame_of m allowed = record {
   octets = refl;
-  allowed = record { least = omega (arith, allowed.least, length-octets_of m); most = omega (arith, allowed.most, length-octets_of m) };
+  allowed = record { least = omega (arith, allowed.least, length-octets_of plain plain-are m); most = omega (arith, allowed.most, length-octets_of plain plain-are m) };
 }
 
 module _ (s : Settings) (can : CanBeSet s) where
@@ -123,7 +125,7 @@ module _ (wide : Bool) (s t : Settings) where
   pub update_read : (ctx : Context) (u : Update) → IsTold wide s t ctx u → verdict_of ctx (update_body ctx u) ≡ Verdict.Take (told_in ctx u) []
   unfolding update_body
   update_read ctx u told =
-      let long = length-octets_of (record { kind = Kind.Update; body = written_body ctx (told_in ctx u) }) in
+      let long = length-octets_of plain plain-are (record { kind = Kind.Update; body = written_body ctx (told_in ctx u) }) in
       let most = within ctx u told.short in
       valid-taken ctx (told_in ctx u) (ranges_by ctx u told.sendable told.ranges ctx.as4) (valid_by ctx u told.sendable told.ranges ctx.as4 refl) (omega arith)
 

@@ -1,4 +1,4 @@
--- A pair goes on by pulls as by the octets that they take.
+-- A pair continues by pulls as by the octets that they consume.
 use Rattle.bgp_session.proofs.Prelude.{◌≡◌, ℕ, zero, suc, ◌<◌, List, [], ◌∷◌, drop, Option, None, Some, refl, sym, ap, subst, ◌∙◌, arith, ArrayVec, AreOctets}
 use Rattle.bgp_session.proofs.Prelude.{with_octet, done_by, Passes, passes, lighter, judges_lighter, call_ends, pull_waits, Action}
 use Rattle.bgp_session.proofs.Prelude.{IsAtRest, Done, settled, by_octet, by_octets, IsPulled, IsReady, left_to_do, weight, Machine, holding, hearer, judged}
@@ -20,7 +20,7 @@ octets_settings x (octet ∷ later) =
 left_settings : (x : Machine) (rest : List ℕ) → (left_to_do x rest).session.settings ≡ x.settings
 left_settings x rest = octets_settings (settled x).session rest ∙ done_settings x (judged x)
 
--- ---- the pair behind a pull
+-- ---- the pair after a pull
 
 module _ (side : Side) (p : Pair) (piece : List ℕ) where
   abbrev x : Machine

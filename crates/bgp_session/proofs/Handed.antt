@@ -1,4 +1,4 @@
--- What a wire was asked, once all moves are played.
+-- The calls of a wire, once all moves are played.
 use Rattle.bgp_session.proofs.Prelude.{◌≡◌, ℕ, ◌≤◌, Bool, true, List, [], ◌++◌, length, take, Result, Ok, Err, sym, ap, subst, ◌∙◌, IfOk, append-nil}
 use Rattle.bgp_session.proofs.Prelude.{take_all, Settings, Move, Report, Plays, report_of, calls_behind, sights_behind, Sight, observed, Call, Grows, Trace}
 use Rattle.bgp_session.proofs.Prelude.{World, begins, Turn, calls_in, sights_in, Ran, all_moved}

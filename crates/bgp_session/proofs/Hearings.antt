@@ -1,4 +1,4 @@
--- A message that is heard keeps what is kept of two ends.
+-- A received message keeps the invariant of two ends.
 use Rattle.bgp_session.proofs.Prelude.{◌≡◌, ◌/◌, ℕ, Bool, true, false, List, [], ◌∷◌, ◌++◌, map, Option, Some, Result, Ok, Err, refl, sym, ap, subst, ◌∙◌}
 use Rattle.bgp_session.proofs.Prelude.{append_assoc, if◌then◌else◌, nat_lt, AllByRecursion, map-append, append-nil, nothing_waits, PeerFault, Context}
 use Rattle.bgp_session.proofs.Prelude.{agreement, peer_notification, said_by, Settings, own_of, reading_of, Action, State, Timers, told_in, Standing, agreed}
@@ -11,14 +11,16 @@ use Rattle.bgp_session.proofs.Facts.{keepalive_spelled, open_read, update_read, 
 use Rattle.bgp_session.proofs.Sayings.{Said, SaidOpen, SaidKeepalive, SaidNotification, SaidUpdate, open_body, update_body, message_of, spellings, updates_of, updates_in, Fits, Stage, WantsOpen, WantsKeepalive, Runs, next, Follows, EndsAt}
 use Rattle.bgp_session.proofs.Ways.{MaySay, sender_goes, sender_says}
 use Rattle.bgp_session.proofs.Ends.{IsAgreed, IsSound, quietly, armed, idle_out, sent_notifies, in_state, gone_to, leaves, notifies}
+use Rattle.bgp_frame.specs.Kind.{plain}
+use Rattle.bgp_frame.specs.steps.AreTypes.{plain-are}
 
--- what an end needs to know of both settings: the other's can be made, both agree on one context, and it may refuse the other where it does
+-- what an end needs to know of both settings: the other's are possible, both agree on one context, and it may refuse the other where it does
 pub record Know (mine theirs : Settings) (allowed : Note → Type 0) (side : Side) : Type 0 where
   pub can : CanBeSet theirs
   pub agree : (x y : Context) → agreement mine (own_of theirs) ≡ Ok x → agreement theirs (own_of mine) ≡ Ok y → x ≡ y
   pub refuses : (fault : PeerFault) → agreement mine (own_of theirs) ≡ Err fault → allowed (note_of side (peer_notification fault))
 
--- a message is heard at a stage, where others are pending behind it
+-- a message is received at a stage, with others pending after it
 pub record HeardAt (wide : Bool) (mine theirs : Settings) (e other : End) (hand : List ℕ) (from : Stage) (m : Said) : Type 0 where
   pub pending : List Said
   pub last : Stage
@@ -54,7 +56,7 @@ module _ (wide : Bool) (mine theirs : Settings) (allowed : Note → Type 0) (sid
   abbrev standing : State → Standing
   standing st = record { state = st; context = e.session.standing.context; peer = e.session.standing.peer; running = running }
 
-  -- what a step on a message makes of the pair: nothing is held behind it
+  -- the pair after a step on a message: nothing is held after it
   abbrev by_heard : Step → Pair
   by_heard step = all_acted side (pair (with_session e (record { settings = e.session.settings; standing = step.next; held = [] })) other notes) step.actions
 
@@ -81,7 +83,7 @@ module _ (wide : Bool) (mine theirs : Settings) (allowed : Note → Type 0) (sid
       };
       other = record { settings = was.other.settings; context = was.other.context; left = was.other.left; none_gone = was.other.none_gone };
       to_this = record {
-        waits = nothing_waits;
+        waits = nothing_waits plain plain-are;
         last = h.last;
         ends = h.ends;
         coming = record { pending = h.pending; spelled = h.rest; follows = h.follows; fit = h.fit; front = h.front; got_so = h.got_so; sent_so = h.sent_so };
@@ -113,7 +115,7 @@ module _ (wide : Bool) (mine theirs : Settings) (allowed : Note → Type 0) (sid
         subst (λ (r : Result Open OpenFault). Behind (on_open e.session.settings (standing State.OpenSent) r)) (sym (open_read theirs know.can))
         (agreement_heard (agreement e.session.settings (own_of theirs)) refl)
 
-  -- ---- the session goes on in Established
+  -- ---- the session continues in Established
 
   abbrev established : Timers → List (Update × PathInfo) → End
   established now got = record {
@@ -129,7 +131,7 @@ module _ (wide : Bool) (mine theirs : Settings) (allowed : Note → Type 0) (sid
     gone = e.gone;
   }
 
-  -- what was said before is all said still
+  -- what was sent before is unchanged
   module _ (st : State) (was : Was st) (up : e.left ≡ false) (agrees : IsAgreed mine theirs e.session.standing.context) (ran : (last : Stage) → EndsAt st last → last ≡ Runs)
       (from : Stage) (m : Said) (h : HearsNow from m) (follows : Follows (Some Runs) h.pending h.last) (now : Timers) where
     runs_on : (got : List (Update × PathInfo)) (front : List Update) → got ≡ map (heard wide) front → other.sent ≡ front ++ updates_in h.pending → Sound (pair (established now got) other notes)
@@ -137,7 +139,7 @@ module _ (wide : Bool) (mine theirs : Settings) (allowed : Note → Type 0) (sid
       this = record { settings = was.this.settings; context = agrees; left = up; none_gone = was.this.none_gone };
       other = was.other;
       to_this = record {
-        waits = nothing_waits;
+        waits = nothing_waits plain plain-are;
         last = h.last;
         ends = h.ends;
         coming = record { pending = h.pending; spelled = h.rest; follows = follows; fit = h.fit; front = front; got_so = got_so; sent_so = sent_so };
@@ -149,7 +151,7 @@ module _ (wide : Bool) (mine theirs : Settings) (allowed : Note → Type 0) (sid
   abbrev pub OnMessage : State → Said → Type 0
   OnMessage st m = Behind (on_message e.session.settings (standing st) st (message_of theirs m).kind (message_of theirs m).body)
 
-  -- the Hold Timer begins anew, or there is none
+  -- the Hold Timer is restarted, or there is none
   keepalive_confirms : Was State.OpenConfirm → HearsNow WantsKeepalive SaidKeepalive → OnMessage State.OpenConfirm SaidKeepalive
   keepalive_confirms was h =
       armed side Sound _ _ _ (λ q. refl)
@@ -184,7 +186,7 @@ module _ (wide : Bool) (mine theirs : Settings) (allowed : Note → Type 0) (sid
         (subst (λ (v : Verdict). Behind (on_verdict (standing State.Established) v)) (sym (update_read wide theirs mine c u h.fits))
         (take_heard (told_in c u) (update_heard wide theirs mine c u h.fits)))
 
-  -- ---- each message, where it may stand
+  -- ---- each message, where it may occur
 
   pub sent_hears : (m : Said) → Was State.OpenSent → HearsNow WantsOpen m → OnMessage State.OpenSent m
   sent_hears SaidOpen was h = open_heard was h

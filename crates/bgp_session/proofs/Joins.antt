@@ -1,4 +1,4 @@
--- A connection that is made: both ends are told, and each has an OPEN in flight towards it.
+-- A connection that is made: both ends get the event, and each has an OPEN in flight towards it.
 use Rattle.bgp_session.proofs.Prelude.{◌≡◌, ℕ, Bool, true, false, List, [], ◌∷◌, ◌++◌, refl, sym, ap, subst, ◌∙◌, append-nil, Waits, nothing_waits, Settings}
 use Rattle.bgp_session.proofs.Prelude.{Action, Event, State, Timers, Machine, own_octets, timers_behind, Timer, Side, End, with_session, towards, Note, Pair}
 use Rattle.bgp_session.proofs.Prelude.{pair, told, seeks, joined_end}
@@ -7,6 +7,8 @@ use Rattle.bgp_session.proofs.Facts.{open_spelled}
 use Rattle.bgp_session.proofs.Sayings.{SaidOpen, spelling, WantsOpen, WantsKeepalive}
 use Rattle.bgp_session.proofs.Ways.{IsHearing}
 use Rattle.bgp_session.proofs.Ends.{IsEnd, IsSound, IsOut, connect_out, active_out, in_state}
+use Rattle.bgp_frame.specs.Kind.{plain}
+use Rattle.bgp_frame.specs.steps.AreTypes.{plain-are}
 
 -- ---- what each end does
 
@@ -66,7 +68,7 @@ module _ (wide : Bool) where
 
   begun_hears : (mine theirs : Settings) (e : End) (other : Settings) → other ≡ theirs → CanJoin mine theirs e → IsHearing wide theirs mine WantsOpen e.session.held (own_octets other) State.OpenSent [] []
   begun_hears mine theirs e other is c = record {
-    waits = subst Waits (sym c.holds_none) nothing_waits;
+    waits = subst Waits (sym c.holds_none) (nothing_waits plain plain-are);
     last = WantsKeepalive;
     ends = refl;
     coming = record {

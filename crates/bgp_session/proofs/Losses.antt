@@ -1,12 +1,12 @@
--- A connection that is lost: each end leaves, and what it heard is a front of what was said.
+-- A connection that is lost: each end leaves, and what it received is a prefix of what was sent.
 use Rattle.bgp_session.proofs.Prelude.{◌≡◌, ℕ, Bool, true, false, not, List, [], refl, sym, ◌∙◌, AllByRecursion, Settings, Event, State, Timers, listens}
 use Rattle.bgp_session.proofs.Prelude.{PathInfo, Update, Side, IsFrontHeard, End, away, Note, Pair, pair, told}
 use Rattle.bgp_session.proofs.Ways.{Goes}
 use Rattle.bgp_session.proofs.Ends.{IsEnd, IsSound, IsOut, quietly, idle_out, connect_out, active_out, in_state, gone_to, idle_in}
 
--- ---- what is left where octets are gone
+-- ---- what remains where octets are lost
 
--- an end that has nothing in flight, and holds nothing where it takes nothing
+-- an end that has nothing in flight, and holds nothing where it accepts nothing
 pub record IsCut (mine theirs : Settings) (e : End) : Type 0 where
   pub end : IsEnd mine theirs e
   pub none_flies : e.flight ≡ []
@@ -19,7 +19,7 @@ pub record IsAway (mine theirs : Settings) (e : End) : Type 0 where
   pub none_flies : e.flight ≡ []
   pub holds_none : e.session.held ≡ []
 
--- an end leaves, and all else stays
+-- an end leaves, and all else is unchanged
 pub record Leaves (mine theirs : Settings) (p q : Pair) : Type 0 where
   pub away : IsAway mine theirs q.this
   pub sent : q.this.sent ≡ p.this.sent
@@ -27,7 +27,7 @@ pub record Leaves (mine theirs : Settings) (p q : Pair) : Type 0 where
   pub other : q.other ≡ p.other
   pub notes : q.notes ≡ p.notes
 
--- where a connection stands for the end, it is told that it failed
+-- where a connection is up for the end, it gets the event that it failed
 abbrev pub told_if : Bool → Side → Pair → Pair
 told_if true side p = told side p Event.Failed
 told_if false side p = p
@@ -108,7 +108,7 @@ both_away wide mine theirs allowed this other notes t o to_this to_other all = r
 
 -- ---- octets in hand
 
--- an end that takes nothing holds nothing
+-- an end that accepts nothing holds nothing
 pub deaf_holds : (wide : Bool) (s t : Settings) (st : State) (held hand flight : List ℕ) (sender : State) (sent : List Update) (got : List (Update × PathInfo))
     → Goes wide s t st held hand flight sender sent got → listens st ≡ false → held ≡ []
 deaf_holds wide s t State.Idle held hand flight sender sent got g is = g.holds_none
@@ -118,7 +118,7 @@ deaf_holds wide s t State.OpenSent held hand flight sender sent got g is = absur
 deaf_holds wide s t State.OpenConfirm held hand flight sender sent got g is = absurd (let not : true ≡ false = is in cc)
 deaf_holds wide s t State.Established held hand flight sender sent got g is = absurd (let not : true ≡ false = is in cc)
 
--- and what is in hand is no matter to it
+-- and what is in hand doesn't matter to it
 drops : (wide : Bool) (s t : Settings) (st : State) (held hand flight : List ℕ) (sender : State) (sent : List Update) (got : List (Update × PathInfo))
     → Goes wide s t st held hand flight sender sent got → not (listens st) ≡ true → Goes wide s t st held [] flight sender sent got
 drops wide s t State.Idle held hand flight sender sent got g is = g

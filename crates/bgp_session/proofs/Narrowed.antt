@@ -1,4 +1,4 @@
--- Each number of an UPDATE that is told to a speaker with AS numbers of two octets is within its field.
+-- Each number of an UPDATE that is sent to a speaker with 2-octet AS numbers is within its field.
 use Rattle.bgp_session.proofs.Prelude.{Bool, true, false, cond, List, [], ◌∷◌, map, arith, AllByRecursion, Update, narrow_number, narrow_segment}
 use Rattle.bgp_session.proofs.Prelude.{narrowed_update, HasUpdateRanges}
 use Rattle.bgp_numbers.specs.declared.TheConstants.{AS_TRANS}

@@ -1,4 +1,4 @@
--- Octets that are fed keep what is kept of two ends.
+-- Octets that are fed keep the invariant of two ends.
 use Rattle.bgp_session.proofs.Prelude.{◌≡◌, ℕ, Bool, true, List, [], ◌∷◌, ◌++◌, length, map, Option, Some, Ok, option_map, refl, sym, ap, subst, ◌∙◌}
 use Rattle.bgp_session.proofs.Prelude.{append_assoc, arith, inl, inr, AllByRecursion, length-append, Message, IsFrame, Waits, done_by, with_octet, HeadFault}
 use Rattle.bgp_session.proofs.Prelude.{nothing_waits, Result, Settings, Action, State, Timers, Done, settled, by_octet, by_octets, Machine, holding, hearer}
@@ -13,6 +13,8 @@ use Rattle.bgp_session.proofs.Streams.{waits_or_ends}
 use Rattle.bgp_session.proofs.Ways.{IsHearing, Goes}
 use Rattle.bgp_session.proofs.Ends.{IsSound, IsOut, idle_out, connect_out, active_out, in_state}
 use Rattle.bgp_session.proofs.Hearings.{Know, HeardAt, OnMessage, sent_hears, confirm_hears, established_hears}
+use Rattle.bgp_frame.specs.Kind.{plain}
+use Rattle.bgp_frame.specs.steps.AreTypes.{plain-are}
 
 -- ---- one octet, and then the others
 
@@ -35,7 +37,7 @@ octet_first side p octet later actions y is =
 rests : (x : Machine) → Waits x.held → settled x ≡ done [] x
 rests x waits = hearings.rests hearer is_hearer x waits
 
--- what is done on an octet, and that it keeps what is kept
+-- what is done on an octet, and that it keeps the invariant
 pub record Keeps (wide : Bool) (mine theirs : Settings) (allowed : Note → Type 0) (side : Side) (hand : List ℕ) (octet : ℕ) (p : Pair) : Type 0 where
   pub actions : List Action
   pub session : Machine
@@ -68,7 +70,7 @@ module _ (wide : Bool) (mine theirs : Settings) (allowed : Note → Type 0) (sid
   abbrev Hearing : Stage → List ℕ → Type 0
   Hearing from h = IsHearing wide theirs mine from h (hand ++ e.flight) other.session.standing.state other.sent e.got
 
-  -- where it is taken
+  -- where it is accepted
   module _ (st : State) (from : Stage) (up : listens st ≡ true)
       (way : (h : List ℕ) → Hearing from h → Goes wide theirs mine st h hand e.flight other.session.standing.state other.sent e.got)
       (on : (m : Said) → Was st → HearsNow from m → KeepsMessage st m) (was : Was st) where
@@ -112,7 +114,7 @@ module _ (wide : Bool) (mine theirs : Settings) (allowed : Note → Type 0) (sid
           let y : Machine = machine st more in
           let said : Message = message_of theirs m in
           let step : Step = hears y.settings y.standing (Ok said) in
-          let comes = content_of-frame said more (subst (λ (b : List ℕ). IsFrame said b) (sym whole) frame) in
+          let comes = content_of-frame plain plain-are said more (subst (λ (b : List ℕ). IsFrame said b) (sym whole) frame) in
           record {
             actions = step.actions;
             session = after_step y step;
@@ -151,7 +153,7 @@ module _ (wide : Bool) (mine theirs : Settings) (allowed : Note → Type 0) (sid
       record {
         actions = [];
         session = machine st held;
-        does = ap (λ (b : Bool). settled (machine st (with_octet b held octet))) out.deaf ∙ rests (machine st held) (subst Waits (sym deaf.holds_none) nothing_waits);
+        does = ap (λ (b : Bool). settled (machine st (with_octet b held octet))) out.deaf ∙ rests (machine st held) (subst Waits (sym deaf.holds_none) (nothing_waits plain plain-are));
         sound = record {
           this = was.this;
           other = was.other;

@@ -1,4 +1,4 @@
--- What comes of all moves: the laws are read off what is kept.
+-- Outcomes of all moves: the laws follow from the invariant.
 use Rattle.bgp_session.proofs.Prelude.{◌≡◌, ℕ, Bool, true, false, not, List, [], ◌∷◌, ◌++◌, map, Option, None, Some, Ok, refl, sym, ap, ◌∙◌, inl, inr}
 use Rattle.bgp_session.proofs.Prelude.{AllByRecursion, Contains, All, append-nil, Waits, Context, agreement, Settings, own_of, both_agree, State, listens}
 use Rattle.bgp_session.proofs.Prelude.{Timer, PathInfo, Update, Move, Round, Side, A, B, CanBeSet, HaveSentRanges, world_behind, context_at, BothAgree}
@@ -93,7 +93,7 @@ module _ (a b : Settings) (moves : List Move) (answers : List Bool) (can_a : Can
   pub fronts : All (HearsFronts (both_wide a b)) (rounds_of world)
   fronts = All-from_recursion (HearsFronts (both_wide a b)) (rounds_of world) (rounds_hear (rounds_of world) (rounds_keep (both_wide a b) a b allowed know world world_sound))
 
-  -- ---- all is heard
+  -- ---- all is received
 
   -- nothing is pending where nothing is in flight
   none_pending : (s t : Settings) → CanBeSet s → (held : List ℕ) (pending : List Said) → AllByRecursion (Fits (both_wide a b) s t) pending → Waits held → held ≡ spellings s pending → pending ≡ []

@@ -1,4 +1,4 @@
--- How turns over a wire are put together.
+-- How turns over a wire are composed.
 use Rattle.bgp_session.proofs.Prelude.{◌≡◌, ℕ, zero, suc, ◌+◌, ◌<◌, ◌≤◌, Bool, true, false, List, [], ◌∷◌, ◌++◌, length, map, take, drop, get_or}
 use Rattle.bgp_session.proofs.Prelude.{if◌then◌else◌, ◌==◌, refl, sym, ap, ap₂, Option, None, Some, Result, subst, ◌∙◌, append_assoc, arith, take-suc, OnOk}
 use Rattle.bgp_session.proofs.Prelude.{append-nil, length-drop, length-take, Move, Side, Wired, Gives, Observes, PlaysOn, Plays, Delivers, passed_seen, Sight}
@@ -17,7 +17,7 @@ failed_both : (n : ℕ) (a b : List Bool) → failed_behind n (a ++ b) ≡ faile
 failed_both n [] b = refl
 failed_both n (answer ∷ a) b = failed_both (failed_after n answer) a b
 
--- ---- the calls that are kept
+-- ---- the recorded calls
 
 pub grows_none : (calls : Option (List Call)) → Grows calls calls []
 grows_none None = tt
@@ -35,7 +35,7 @@ answers_both (Joined answer ∷ a) b = ap (λ (l : List Bool). answer ∷ l) (an
 answers_both (Handed to octets answer ∷ a) b = ap (λ (l : List Bool). answer ∷ l) (answers_both a b)
 answers_both (Cut ∷ a) b = answers_both a b
 
--- the calls of turns behind turns, and what they show
+-- the calls of turns after turns, and what they show
 pub calls_both : (a b : List Turn) → calls_in (a ++ b) ≡ calls_in a ++ calls_in b
 calls_both [] b = refl
 calls_both (Asks call ∷ a) b = ap (λ (l : List Call). call ∷ l) (calls_both a b)
@@ -66,7 +66,7 @@ no_answer false stays = refl
 abbrev with_turns : Ran → List Turn → Ran
 with_turns r turns = record { world = r.world; answers = r.answers; turns = turns }
 
--- turns behind turns
+-- turns after turns
 behind_both : (a b : List Turn) (r : Ran) → behind a (behind b r) ≡ behind (a ++ b) r
 behind_both a b r = ap (with_turns r) (sym (append_assoc a b r.turns))
 
@@ -131,7 +131,7 @@ pub moves_quietly : {S T E : Type 0} (honest : Bool) (after : S → Sight → S)
 moves_quietly honest after answers failed calls s t one two w v made sights r is same told seen =
     on_ok_both (moves_shown honest after answers (trace failed calls s) (trace failed calls t) one two w v made sights is same refl (grows_none calls)) r told seen
 
--- both sides were told what the wire answered
+-- both sides got the event for the wire's answer
 pub joins_asked : {S T E : Type 0} (honest : Bool) (after : S → Sight → S) (old new : List Bool) (trace_old trace_new : Trace S) (w v : World) (can answer : Bool) (r : Result T E)
     → can ≡ true → new ≡ old ++ answer ∷ [] → trace_new.failed ≡ failed_after trace_old.failed answer → Grows trace_old.calls trace_new.calls (Joined answer ∷ [])
     → OnOk r (v ≡ joins answer w) → OnOk r (trace_new.seen ≡ observed after trace_old.seen (joins_seen answer w))
@@ -216,7 +216,7 @@ module _ {S : Type 0} (honest : Bool) (after : S → Sight → S) (side : Side) 
   Before n = PlaysOn (wired honest after old mid trace_old trace_mid) turn (delivered n side octets w)
 
   module _ (some : 0 < length octets) (stays : (end_of side w).left ≡ false) where
-    -- one piece more was answered
+    -- one more piece was answered
     further : (n : ℕ) (answer : Bool) → PlaysOn (wired honest after old mid trace_old trace_mid) turn (delivered (suc n) side octets w)
         → Passes (wired honest after mid new trace_mid trace_new) answer side (take 4096 octets) w v
         → (rest : List Bool → Ran)
@@ -291,7 +291,7 @@ module _ {S : Type 0} (honest h : Bool) (same : h ≡ honest) (after : S → Sig
   pub stops_there : answer ≡ false → Plays (wired honest after old new trace_old trace_new) turn v
   stops_there is = loses_piece honest after side turn old mid new trace_old trace_mid trace_new octets w v some stays d.pieces d.enough d.so_far answer is passes_so
 
--- the octets are drawn, and none of them has passed
+-- the octets are drawn, and none of them has been passed yet
 pub delivers_first : {S : Type 0} (honest : Bool) (after : S → Sight → S) (answers : List Bool) (at : Trace S) (side : Side) (count : ℕ) (w v : World) (octets : List ℕ) → octets ≡ take count (end_of side w).flight → v ≡ drawn side count w
     → Delivers (wired honest after answers answers at at) (delivers side count w) side octets v
 delivers_first honest after answers at side count w v octets front drawn_so = record {
@@ -301,7 +301,7 @@ delivers_first honest after answers at side count w v octets front drawn_so = re
       (λ later. ap (λ (o : List ℕ). delivered count side o (drawn side count w) later) (sym front) ∙ ap (λ (x : World). delivered count side octets x later) (sym drawn_so));
 }
 
--- a delivery ends where nothing is left to pass, or the side has left
+-- a delivery ends where no octets remain to be passed, or the side has left
 module _ {S : Type 0} (wires : Wired S) (turn : List Bool → Ran) (side : Side) (octets : List ℕ) (w : World) (d : Delivers wires turn side octets w) where
   pub ends_empty : octets ≡ [] → Plays wires turn w
   ends_empty none = record {
@@ -321,7 +321,7 @@ module _ {S : Type 0} (wires : Wired S) (turn : List Bool → Ran) (side : Side)
     goes_on = λ is later. d.so_far.goes_on is later ∙ ap (behind d.so_far.turns) (delivered_left d.pieces side octets w later left);
   }
 
--- ---- one move behind the others
+-- ---- one move after the others
 
 moved_last : (moves : List Move) (one : Move) (w : World) (answers : List Bool)
     → all_moved (moves ++ one ∷ []) w answers ≡ behind (all_moved moves w answers).turns (played one (all_moved moves w answers).world (all_moved moves w answers).answers)

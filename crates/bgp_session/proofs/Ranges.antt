@@ -10,7 +10,7 @@ sends_last [] one w answers all is = (is, tt)
 sends_last (m ∷ moves) one w answers all is = (all.0, sends_last moves one (moved m w answers).world (moved m w answers).answers all.1 is)
 
 module _ {S : Type 0} (honest h : Bool) (after : S → Sight → S) (begin : World) (start mid new : List Bool) (none : start ≡ []) (trace_old trace_mid trace_new : Trace S) (w v : World) where
-  -- one move more, which asked the wire for what it needs
+  -- one more move, which asked the wire for what it needs
   one_more : (moves : List Move) (one : Move) → Plays (wired honest after start mid trace_old trace_mid) (all_moved moves begin) w
       → Plays (wired h after mid new trace_mid trace_new) (played one w) v → SendsRanges w one → HaveSoFar honest moves begin mid → HaveSoFar honest (moves ++ one ∷ []) begin new
   one_more moves one first second sends so_far = λ is later.

@@ -1,11 +1,11 @@
--- What is reported of a schedule keeps to the laws of its world.
+-- The report of a schedule keeps to the laws of its world.
 use Rattle.bgp_session.proofs.Prelude.{◌≡◌, Bool, List, [], ◌++◌, Result, Ok, Err, sym, ap, subst, ◌∙◌, IfOk, All, append-nil, Settings, Move, Report, Round}
 use Rattle.bgp_session.proofs.Prelude.{CanBeSet, HaveSentRanges, world_behind, RoundHasReasons, both_wide, HearsFronts, IsReported, Ran, rounds_of}
 use Rattle.bgp_session.proofs.Outcomes.{reasons, fronts}
 
 module _ (a b : Settings) (moves : List Move) (report : Report) (can_a : CanBeSet a) (can_b : CanBeSet b) (ranges : HaveSentRanges a b moves report.answers)
     (r : IsReported a b moves report) where
-  -- the rounds of the world behind the moves, for the report's own answers
+  -- the rounds of the world after the moves, for the report's own answers
   sent_so : HaveSentRanges a b moves (report.answers ++ [])
   sent_so = subst (λ (answers : List Bool). HaveSentRanges a b moves answers) (sym (append-nil report.answers)) ranges
 

@@ -1,11 +1,11 @@
--- Both sessions have nothing left to do behind each move.
+-- Both sessions have nothing left to do after each move.
 use Rattle.bgp_session.proofs.Prelude.{◌≡◌, ℕ, List, [], ◌∷◌, Option, None, Some, Result, Ok, Err, refl, sym, ap, ap₂, subst, ◌∙◌, IfOk, OnOk, Action, Event}
 use Rattle.bgp_session.proofs.Prelude.{SendFault, IsAtRest, by_octets, after_event, happens, event_rests, Update, Side, A, B, End, with_session, before_event}
 use Rattle.bgp_session.proofs.Prelude.{Pair, pair, acted, all_acted, told, fed, Rests, Sends, IsTried, World, with_pair}
 use Rattle.bgp_session.proofs.Acts.{all_keeps}
 
 module _ (side : Side) where
-  -- the other session stays as it is
+  -- the other session is unchanged
   acted_spares : (p : Pair) (a : Action) → (acted side p a).other.session ≡ p.other.session
   acted_spares p Action.Connect = refl
   acted_spares p Action.Close = refl
@@ -62,7 +62,7 @@ if_on : {T E : Type 0} {P : T → Type 0} {Q : Type 0} → ((v : T) → P v → 
 if_on f (Ok v) p = f v p
 if_on f (Err e) p = p
 
--- ---- what was tried to be sent
+-- ---- attempts to send
 
 module _ (this other x y : End) (u : Update) where
   sends_rest : (found : Option SendFault) → Sends this other u x y found → IsAtRest this.session → IsAtRest other.session → IsAtRest x.session × IsAtRest y.session

@@ -1,4 +1,4 @@
--- What one end says to the other, in which order it comes, and how it is spelled.
+-- What one end sends to the other, in which order, and how it is written.
 use Rattle.bgp_session.proofs.Prelude.{◌≡◌, ℕ, Bool, false, List, [], ◌∷◌, ◌++◌, Option, None, Some, Ok, Kind, Notification, Message, octets_of, Context}
 use Rattle.bgp_session.proofs.Prelude.{agreement, Settings, own_of, State, why_unsent, told_in, is_told_too_long, Update, HasUpdateRanges}
 use Rattle.bgp_msg.specs.Written as written
@@ -23,7 +23,7 @@ notification_body why = written.notification_octets why
 unfoldable pub update_body : Context → Update → List ℕ
 update_body ctx u = updates.written_body ctx (told_in ctx u)
 
--- what a speaker of these settings says
+-- what a speaker of these settings sends
 abbrev pub message_of : Settings → Said → Message
 message_of s SaidOpen = record { kind = Kind.Open; body = open_body s }
 message_of s SaidKeepalive = record { kind = Kind.Keepalive; body = [] }
@@ -37,7 +37,7 @@ abbrev pub spellings : Settings → List Said → List ℕ
 spellings s [] = []
 spellings s (m ∷ later) = spelling s m ++ spellings s later
 
--- ---- what is said
+-- ---- what is sent
 
 abbrev pub updates_of : Said → List Update
 updates_of (SaidUpdate ctx u) = u ∷ []
@@ -63,7 +63,7 @@ Fits wide s t (SaidUpdate ctx u) = IsTold wide s t ctx u
 
 -- ---- the order
 
--- what is wanted next
+-- what is expected next
 pub data Stage : Type 0 where
   WantsOpen : Stage
   WantsKeepalive : Stage
@@ -85,7 +85,7 @@ Follows None ms last = ⊥
 Follows (Some from) [] last = last ≡ from
 Follows (Some from) (m ∷ later) last = Follows (next from m) later last
 
--- what a session has said when it is in this state: an OPEN, and behind the other's a KEEPALIVE
+-- what a session has sent when it is in this state: an OPEN, and after the other's a KEEPALIVE
 abbrev pub EndsAt : State → Stage → Type 0
 EndsAt State.OpenSent last = last ≡ WantsKeepalive
 EndsAt State.OpenConfirm last = last ≡ Runs

@@ -1,4 +1,4 @@
--- An UPDATE that is sent keeps what is kept of two ends.
+-- An UPDATE that is sent keeps the invariant of two ends.
 use Rattle.bgp_session.proofs.Prelude.{◌≡◌, ℕ, Bool, true, false, List, [], ◌∷◌, ◌++◌, Option, None, Some, Ok, refl, ap, subst, ◌∙◌, Context, agreement}
 use Rattle.bgp_session.proofs.Prelude.{Settings, own_of, SendFault, State, Timers, why_unsent, is_told_too_long, told_octets, unless_invalid, refusal_in}
 use Rattle.bgp_session.proofs.Prelude.{refusal_of, Update, HasUpdateRanges, End, told_by, Note, Pair, pair, sent}
@@ -22,7 +22,7 @@ sendable_by None false is = (refl, refl)
 sendable : (ctx : Context) (u : Update) → refusal_in (Some ctx) u ≡ None → IsSendable ctx u
 sendable ctx u is = let both = sendable_by (why_unsent ctx u) (is_told_too_long ctx u) is in record { valid = both.0; short = both.1 }
 
--- it is said in the context that both agreed on
+-- it is sent in the context that both agreed on
 says : (ctx : Context) (u : Update) (last : Stage) → EndsAt State.Established last → MaySay State.Established State.Established (SaidUpdate ctx u) last
 says ctx u last is = record { behind = Runs; is_next = ap (λ (st : Stage). next st (SaidUpdate ctx u)) is; ends = refl }
 

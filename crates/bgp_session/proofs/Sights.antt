@@ -1,4 +1,4 @@
--- What a pull shows is what the octets that it takes show one by one.
+-- A pull shows what the octets that it consumes show one by one.
 use Rattle.bgp_session.proofs.Prelude.{◌≡◌, ℕ, Bool, true, false, List, [], ◌∷◌, ◌++◌, map, take, drop, Option, None, Some, option_map, Result}
 use Rattle.bgp_session.proofs.Prelude.{Bor, refl, sym, ap, ap₂, subst, ◌∙◌, append_assoc, inl, inr, option_copied, take-append-drop, append-nil, ArrayVec}
 use Rattle.bgp_session.proofs.Prelude.{AreOctets, Context, HeadFault, Message, Waits, IsHeld, Takes, CountsFed, Judges, behind_feed, with_octet, Action}
@@ -9,6 +9,8 @@ use Rattle.bgp_session.proofs.Prelude.{with_machine, left_seen, Pair, all_acted,
 use Rattle.bgp_session.proofs.Prelude.{octets_seen}
 use Rattle.bgp_session.proofs.Acts.{all_keeps}
 use Rattle.bgp_session.proofs.Plays.{observed_both}
+use Rattle.bgp_frame.specs.Kind.{plain}
+use Rattle.bgp_frame.specs.steps.AreTypes.{plain-are}
 
 module _ (side : Side) where
   -- octets in two parts
@@ -19,7 +21,7 @@ module _ (side : Side) where
       ap (λ (l : List Sight). octet_seen side x octet ++ l) (seen_in_parts y a b)
       ∙ sym (append_assoc (octet_seen side x octet) (octets_seen side y a) (octets_seen side (by_octets y a).session b))
 
-  -- nothing is shown of what waits
+  -- nothing is shown of an incomplete message
   waits_unseen : (x : Machine) → Waits x.held → settled_seen side x ≡ []
   waits_unseen x waits = ap (step_seen side x) (idles hearer is_hearer x waits)
 
@@ -28,7 +30,7 @@ module _ (side : Side) where
       ap (λ (l : List Sight). l ++ octets_seen side (settled x).session rest) (waits_unseen x waits)
       ∙ ap (λ (d : Done). octets_seen side d.session rest) (rests hearer is_hearer x waits)
 
-  -- octets that aren't taken show nothing
+  -- octets that aren't accepted show nothing
   module _ (x : Machine) (deaf : listens x.standing.state ≡ false) (waits : Waits x.held) where
     drops_one : (octet : ℕ) → octet_seen side x octet ≡ []
     drops_one octet = ap (λ (b : Bool). came_if b side octet ++ settled_seen side (holding x (with_octet b x.held octet))) deaf ∙ waits_unseen x waits
@@ -49,12 +51,12 @@ module _ (side : Side) where
     held_one held octet waits =
         ap (λ (b : Bool). (settled (holding x (with_octet b held octet))).session) up ∙ ap (λ (d : Done). d.session) (rests hearer is_hearer (holding x (held ++ octet ∷ [])) waits)
 
-    -- octets that can all be held come, and then what is held is judged
+    -- octets arrive that can all be held, and then what is held is judged
     seen_front : (front : List ℕ) → Waits x.held → IsHeld (x.held ++ front) → octets_seen side x front ≡ map (Came side) front ++ settled_seen side (holding x (x.held ++ front))
     seen_front [] waits is = sym (waits_unseen x waits) ∙ ap (λ (h : List ℕ). settled_seen side (holding x h)) (sym (append-nil x.held))
     seen_front (octet ∷ front) waits is =
         let whole = x.held ++ octet ∷ front in
-        all_held (λ held later. octets_seen side (holding x held) later ≡ map (Came side) later ++ settled_seen side (holding x whole)) whole
+        all_held plain plain-are (λ held later. octets_seen side (holding x held) later ≡ map (Came side) later ++ settled_seen side (holding x whole)) whole
         (λ held octet joined.
         append-nil (octet_seen side (holding x held) octet) ∙ seen_one held octet ∙ ap (λ (h : List ℕ). Came side octet ∷ settled_seen side (holding x h)) joined)
         (λ held octet next later more_waits goes.
@@ -63,14 +65,14 @@ module _ (side : Side) where
         ∙ ap (λ (l : List Sight). Came side octet ∷ l) goes)
         is x.held octet front refl
 
-  -- octets are taken that can all be held
+  -- octets are consumed that can all be held
   seen_taking : (x : Machine) (piece : List ℕ) (n : ℕ) → listens x.standing.state ≡ true → Waits x.held → IsHeld x.held → AreOctets piece → Takes x.held piece n
       → left_seen side x piece ≡ map (Came side) (take n piece) ++ left_seen side (holding x (x.held ++ take n piece)) (drop n piece)
   seen_taking x piece n up waits is octets takes =
       let front : List ℕ = take n piece in
       let back : List ℕ = drop n piece in
       let z : Machine = holding x (x.held ++ front) in
-      let fits : IsHeld (x.held ++ front) = IsHeld-fed x.held piece n is octets takes in
+      let fits : IsHeld (x.held ++ front) = IsHeld-fed plain plain-are x.held piece n is octets takes in
       left_waiting x piece waits
       ∙ ap (octets_seen side x) (sym (take-append-drop n piece))
       ∙ seen_in_parts x front back
@@ -78,19 +80,19 @@ module _ (side : Side) where
       (ap (λ (d : Done). octets_seen side d.session back) (front_by_octets hearer is_hearer x up front waits fits))
       ∙ append_assoc (map (Came side) front) (settled_seen side z) (octets_seen side (settled z).session back)
 
-  -- what is held is judged, and the rest comes to a session that holds nothing
+  -- what is held is judged, and the rest goes to a session that holds nothing
   seen_judging : (x : Machine) (actions : List Action) (y : Machine) (rest : List ℕ) → Judges hearer x actions y
       → left_seen side x rest ≡ Heard side x.standing.context y.standing.state actions ∷ left_seen side y rest
   seen_judging x actions y rest j =
       let step = hears x.settings x.standing j.what in
       ap (λ (l : List Sight). l ++ octets_seen side (settled x).session rest)
-      (ap (λ (o : Option (Result Message HeadFault)). step_seen side x (option_map (hears x.settings x.standing) o)) (content_is j.what x.held j.is_held))
+      (ap (λ (o : Option (Result Message HeadFault)). step_seen side x (option_map (hears x.settings x.standing) o)) (content_is plain plain-are j.what x.held j.is_held))
       ∙ ap (λ (e : Done). Heard side x.standing.context step.next.state step.actions ∷ octets_seen side e.session rest) (settled_by hearer is_hearer x actions y j)
       ∙ ap₂ (λ (st : State) (acts : List Action). Heard side x.standing.context st acts ∷ octets_seen side y rest) (sym (ap (λ (m : Machine). m.standing.state) j.leaves)) (sym j.does)
       ∙ ap (λ (l : List Sight). Heard side x.standing.context y.standing.state actions ∷ l)
       (sym (left_waiting y rest (empty_waits hearer is_hearer y (judged_empty hearer is_hearer x actions y j))))
 
-  -- a feed shows the octets that it takes
+  -- a feed shows the octets that it consumes
   seen_none : (x : Machine) (piece : List ℕ) (n : ℕ) → n ≡ 0 → left_seen side x piece ≡ map (Came side) (take n piece) ++ left_seen side (behind_feed hearer x piece n) (drop n piece)
   seen_none x piece n none =
       subst (λ (k : ℕ). left_seen side x piece ≡ map (Came side) (take k piece) ++ left_seen side (behind_feed hearer x piece k) (drop k piece)) (sym none)
@@ -100,19 +102,19 @@ module _ (side : Side) where
       → left_seen side x piece ≡ map (Came side) (take n piece) ++ left_seen side (behind_feed hearer x piece n) (drop n piece)
   seen_feed x piece n ready octets false deaf none = seen_none x piece n none
   seen_feed x piece n ready octets true up counts =
-      elim (waits_or_stops x.held ready.can_hold) [
+      elim (waits_or_stops plain plain-are x.held ready.can_hold) [
         | inl waits ↦ seen_taking x piece n up waits ready.can_hold octets counts.0
-        | inr stops ↦ seen_none x piece n (none_more x.held piece n stops counts.0)
+        | inr stops ↦ seen_none x piece n (none_more plain plain-are x.held piece n stops counts.0)
       ]
 
   unseen : (x : Machine) (piece : List ℕ) (up : Bool) → listens x.standing.state ≡ up → Waits x.held → CountsFed up x.held piece 0 → octets_seen side x piece ≡ []
-  unseen x piece true up waits counts = ap (octets_seen side x) (none_left piece (counts.1 waits))
+  unseen x piece true up waits counts = ap (octets_seen side x) (none_left plain plain-are piece (counts.1 waits))
   unseen x piece false deaf waits counts = drops_unseen x deaf waits piece
 
 -- ---- what an observer has of a pull
 
 module _ {S : Type 0} (after : S → Sight → S) (s t : S) (side : Side) (x : Machine) (piece : List ℕ) (ready : IsReady x) (octets : AreOctets piece) where
-  -- once these octets came
+  -- once these octets arrived
   abbrev then_came : ℕ → S
   then_came n = observed after s (map (Came side) (take n piece))
 
@@ -139,7 +141,7 @@ module _ {S : Type 0} (after : S → Sight → S) (s t : S) (side : Side) (x : M
       let call = pulls_as_fed x piece n None y p in
       sees_fed n call.fed.0 ∙ ap₂ (λ (u : S) (m : Machine). observed after u (left_seen side m (drop n piece))) (sym told) (sym call.next)
 
-  -- nothing is left to be shown
+  -- nothing remains to be shown
   pub sees_none : (y : Machine) → IsPulled x piece 0 None y → t ≡ then_came 0 → observed after s (left_seen side x piece) ≡ t
   sees_none y p told =
       let waits = pull_waits hearer is_hearer x piece 0 y ready.holds_none p in

@@ -1,11 +1,11 @@
--- One way of a connection: what was said on it, what is in flight, and what was heard.
+-- One direction of a connection: what was sent on it, what is in flight, and what was received.
 use Rattle.bgp_session.proofs.Prelude.{◌≡◌, ℕ, Bool, true, false, not, List, [], ◌∷◌, ◌++◌, map, Option, None, Some, refl, sym, ap, subst, ◌∙◌, append_assoc}
 use Rattle.bgp_session.proofs.Prelude.{AllByRecursion, append-nil, all_push, Waits, Settings, State, listens, PathInfo, Update, heard, IsFrontHeard, flying}
 use Rattle.bgp_session.proofs.Sayings.{Said, spelling, spellings, updates_of, updates_in, Fits, Stage, WantsOpen, WantsKeepalive, Runs, next, Follows, EndsAt}
 
--- ---- what is kept
+-- ---- the invariant
 
--- messages of a speaker of the settings s come to one of the settings t, which wants them from this stage on
+-- messages from a speaker of the settings s to one of the settings t, which expects them from this stage on
 pub record Coming (wide : Bool) (s t : Settings) (from last : Stage) (octets : List ℕ) (sent : List Update) (got : List (Update × PathInfo)) : Type 0 where
   pub pending : List Said
   pub spelled : octets ≡ spellings s pending
@@ -15,7 +15,7 @@ pub record Coming (wide : Bool) (s t : Settings) (from last : Stage) (octets : L
   pub got_so : got ≡ map (heard wide) front
   pub sent_so : sent ≡ front ++ updates_in pending
 
--- the hearer takes octets: what it holds waits
+-- the receiver accepts octets: what it holds is incomplete
 pub record IsHearing (wide : Bool) (s t : Settings) (from : Stage) (held rest : List ℕ) (sender : State) (sent : List Update) (got : List (Update × PathInfo)) : Type 0 where
   pub waits : Waits held
   pub last : Stage
@@ -28,20 +28,20 @@ pub record IsDeaf (wide : Bool) (held flight : List ℕ) (sent : List Update) (g
   pub none_flies : flight ≡ []
   pub hears : IsFrontHeard wide sent got
 
--- by the hearer's state. Octets can be in hand that were drawn from the flight and not yet fed
+-- by the receiver's state. Octets can be in hand that were drawn from the flight and not yet fed
 abbrev pub Goes : Bool → Settings → Settings → State → List ℕ → List ℕ → List ℕ → State → List Update → List (Update × PathInfo) → Type 0
 Goes wide s t State.OpenSent held hand flight sender sent got = IsHearing wide s t WantsOpen held (hand ++ flight) sender sent got
 Goes wide s t State.OpenConfirm held hand flight sender sent got = IsHearing wide s t WantsKeepalive held (hand ++ flight) sender sent got
 Goes wide s t State.Established held hand flight sender sent got = IsHearing wide s t Runs held (hand ++ flight) sender sent got
 Goes wide s t _ held hand flight sender sent got = IsDeaf wide held flight sent got
 
--- a message may be said behind what was said in the old state, and then all is said of the new one
+-- a message may be sent after what was sent in the old state, and then all that the new state requires has been sent
 pub record MaySay (old new : State) (m : Said) (last : Stage) : Type 0 where
   pub behind : Stage
   pub is_next : next last m ≡ Some behind
   pub ends : EndsAt new behind
 
--- ---- messages in a row
+-- ---- messages in sequence
 
 follows_more : (o : Option Stage) (ms : List Said) (m : Said) (last behind : Stage) → Follows o ms last → next last m ≡ Some behind → Follows o (ms ++ m ∷ []) behind
 follows_more None ms m last behind f is = f
@@ -59,7 +59,7 @@ updates_more (x ∷ ms) m =
     ap (λ (l : List Update). updates_of x ++ l) (updates_more ms m) ∙ sym (append_assoc (updates_of x) (updates_in ms) (updates_of m))
 
 module _ (wide : Bool) (s t : Settings) where
-  -- ---- the front
+  -- ---- the first message
 
   coming_front : (from last : Stage) (octets : List ℕ) (sent : List Update) (got : List (Update × PathInfo))
       → Coming wide s t from last octets sent got → IsFrontHeard wide sent got
@@ -74,7 +74,7 @@ module _ (wide : Bool) (s t : Settings) where
   front_of State.Connect held hand flight sender sent got g = g.hears
   front_of State.Active held hand flight sender sent got g = g.hears
 
-  -- ---- the sender goes to another state, and says nothing
+  -- ---- the sender goes to another state, and sends nothing
 
   module _ (from : Stage) (held rest : List ℕ) (old new : State) (sent : List Update) (got : List (Update × PathInfo)) (goes : (last : Stage) → EndsAt old last → EndsAt new last) where
     hearing_goes : IsHearing wide s t from held rest old sent got → IsHearing wide s t from held rest new sent got
@@ -89,7 +89,7 @@ module _ (wide : Bool) (s t : Settings) where
   sender_goes State.Connect held hand flight old new sent got goes g = g
   sender_goes State.Active held hand flight old new sent got goes g = g
 
-  -- ---- the sender says a message
+  -- ---- the sender sends a message
 
   module _ (old new : State) (m : Said) (may : (last : Stage) → EndsAt old last → MaySay old new m last) (fits : Fits wide s t m)
       (octets : List ℕ) (spelled : octets ≡ spelling s m) (sent sent_new : List Update) (sends : sent_new ≡ sent ++ updates_of m) (got : List (Update × PathInfo)) where

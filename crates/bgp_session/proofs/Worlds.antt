@@ -1,4 +1,4 @@
--- What is kept of two ends is kept by each move.
+-- Each move keeps the invariant of two ends.
 use Rattle.bgp_session.proofs.Prelude.{◌≡◌, ℕ, zero, suc, ◌≤◌, Bool, true, false, List, [], ◌∷◌, ◌++◌, length, take, drop, Option, None, Some, Ok, refl, sym}
 use Rattle.bgp_session.proofs.Prelude.{ap, subst, ◌∙◌, arith, if◌then◌else◌, AllByRecursion, drop-nil, take-append-drop, length-take, length-drop, all_push}
 use Rattle.bgp_session.proofs.Prelude.{Context, agreement, Settings, own_of, Event, SendFault, State, refusal_of, own_octets, listens, PathInfo, Update}
@@ -51,7 +51,7 @@ draws_pair wide mine theirs allowed p k s = record {
   notes = s.notes;
 }
 
--- what a round comes to
+-- the result of a round
 pub record RoundKeeps (wide : Bool) (allowed : Note → Type 0) (round : Round) : Type 0 where
   pub hears : HearsFronts wide round
   pub notes : AllByRecursion allowed round.notes
@@ -203,7 +203,7 @@ module _ (wide : Bool) (a b : Settings) (allowed : Note → Type 0) (know : Both
     all_lost : IsSoundWorld (lost_if true w)
     all_lost = subst (λ (v : World). IsSoundWorld v) (sym lost_is) (record { both = left_sound; over = over })
 
-  -- what is in hand is no matter to a side that has left
+  -- what is in hand doesn't matter to a side that has left
   drops_at : (side : Side) (hand : List ℕ) (w : World) → SoundAt side hand w → (end_of side w).left ≡ true → SoundAt side [] w
   drops_at A hand w s is = drops_hand wide a b allowed hand (seen_by A w) s is
   drops_at B hand w s is = drops_hand wide b a allowed hand (seen_by B w) s is

@@ -1,4 +1,4 @@
--- What comes of two ends, whatever is done: the words of the laws.
+-- Outcomes of two ends, whatever is done: the terms of the laws.
 use Rattle.std.specs.Prelude.{◌≡◌, ◌≢◌, ◌<◌, ◌^◌, ◌⊎◌, ◌&&◌, ℕ, Bool, List, [], ◌∷◌, ◌++◌, length, map, Option, None, Some, Ok}
 use Rattle.std.specs.List.{All, Contains}
 use Rattle.bgp_numbers.specs.declared.error.TheConstants.{OPEN_MESSAGE, BAD_PEER_AS, BAD_IDENTIFIER, HOLD_TIMER_EXPIRED, UNSPECIFIC, CEASE}
@@ -17,7 +17,7 @@ use Rattle.bgp_session.specs.declared.side.Side.TheVariants.{A, B}
 use Rattle.bgp_session.specs.Pair.{Note}
 use Rattle.bgp_session.specs.World.{World, begins, end_of, rounds_of, moved, all_moved}
 
--- ---- what there can be
+-- ---- what is possible
 
 -- a speaker can be set so: the settings aren't refused, and each number is within its field
 pub record CanBeSet (s : Settings) : Type 0 where
@@ -36,7 +36,7 @@ abbrev pub SendsRanges : World → Move → Type 0
 SendsRanges w (Move.Send side u) = HasRangesUnless (refusal_of (end_of side w).session u) u
 SendsRanges w _ = Unit {0}
 
--- and of what each of these moves sends, made on what those before it left
+-- and of what each of these moves sends, made on the world after those before it
 abbrev pub AllSendRanges : List Move → World → List Bool → Type 0
 AllSendRanges [] w answers = Unit {0}
 AllSendRanges (one ∷ later) w answers = SendsRanges w one × AllSendRanges later (moved one w answers).world (moved one w answers).answers
@@ -45,9 +45,9 @@ AllSendRanges (one ∷ later) w answers = SendsRanges w one × AllSendRanges lat
 abbrev pub HaveSentRanges : Settings → Settings → List Move → List Bool → Type 0
 HaveSentRanges a b moves answers = AllSendRanges moves (begins a b) answers
 
--- ---- what comes of it
+-- ---- outcomes
 
--- the world behind these moves, for these answers of the wire
+-- the world after these moves, for these answers of the wire
 abbrev pub world_behind : Settings → Settings → List Move → List Bool → World
 world_behind a b moves answers = (all_moved moves (begins a b) answers).world
 
@@ -65,7 +65,7 @@ settings_of B a b = b
 abbrev pub context_at : Side → World → Option Context
 context_at side w = (end_of side w).session.standing.context
 
--- the context of a session is what its speaker agrees on with what the other says of itself, and where both have one, they are one
+-- a session's context is what its speaker agrees on with the other's OPEN, and where both have a context, it is the same
 pub record BothAgree (a b : Settings) (w : World) : Type 0 where
   pub at_a : (ctx : Context) → context_at A w ≡ Some ctx → agreement a (own_of b) ≡ Ok ctx
   pub at_b : (ctx : Context) → context_at B w ≡ Some ctx → agreement b (own_of a) ≡ Ok ctx
@@ -73,7 +73,7 @@ pub record BothAgree (a b : Settings) (w : World) : Type 0 where
 
 -- ---- why a NOTIFICATION is sent
 
--- the other has another AS number than the one that is configured
+-- the other's AS number isn't the configured one
 pub record IsWrongAs (mine theirs : Settings) (code subcode : ℕ) : Type 0 where
   pub code_is : code ≡ OPEN_MESSAGE
   pub subcode_is : subcode ≡ BAD_PEER_AS
@@ -98,7 +98,7 @@ pub record IsStopped (side : Side) (moves : List Move) (code subcode : ℕ) : Ty
   pub subcode_is : subcode ≡ UNSPECIFIC
   pub stops : Contains moves (Move.Stop side)
 
--- one of four reasons, for a side of the settings `mine`
+-- the NOTIFICATION has one of four reasons, for a side of the settings `mine`
 abbrev pub HasReason : Settings → Settings → Side → List Move → ℕ → ℕ → Type 0
 HasReason mine theirs side moves code subcode =
     IsWrongAs mine theirs code subcode ⊎ (IsSameIdentifier mine theirs code subcode ⊎ (IsHeldTooLong side moves code subcode ⊎ IsStopped side moves code subcode))
@@ -109,17 +109,17 @@ NoteHasReason a b moves note = HasReason (settings_of note.0 a b) (settings_of (
 abbrev pub RoundHasReasons : Settings → Settings → List Move → Round → Type 0
 RoundHasReasons a b moves round = All (NoteHasReason a b moves) round.notes
 
--- ---- what is heard
+-- ---- what is received
 
--- AS numbers of four octets are in use where both offer them
+-- 4-octet AS numbers are in use where both offer them
 abbrev pub both_wide : Settings → Settings → Bool
 both_wide a b = a.as4 && b.as4
 
--- an UPDATE as it comes to the other side: as it went, without what isn't passed on, with its own path and aggregator
+-- an UPDATE as the other side receives it: as sent, without what isn't passed on, with its own path and aggregator
 abbrev pub heard : Bool → Update → Update × PathInfo
 heard wide u = (onward_of (told_with wide u), record { path = u.attrs.as_path; aggregator = u.attrs.aggregator })
 
--- what was got is what is heard of a front of what was sent, in order
+-- what was received is the received form of the first UPDATEs that were sent, in order
 pub record IsFrontHeard (wide : Bool) (sent : List Update) (got : List (Update × PathInfo)) : Type 0 where
   pub front : List Update
   pub later : List Update
@@ -141,7 +141,7 @@ abbrev pub got_by : Side → Round → List (Update × PathInfo)
 got_by A round = round.got_a
 got_by B round = round.got_b
 
--- in the last round, the side got all that the other sent
+-- in the last round, the side received all that the other sent
 pub record HeardAll (wide : Bool) (side : Side) (w : World) : Type 0 where
   pub earlier : List Round
   pub last : Round

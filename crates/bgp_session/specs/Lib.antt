@@ -1,4 +1,4 @@
--- Two sessions that are joined by two pipes: what each move does, and what comes of a schedule.
+-- Two sessions that are joined by two pipes: what each move does, and the outcome of a schedule.
 pub mod Pair
 pub mod World
 pub mod Wire

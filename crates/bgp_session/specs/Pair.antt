@@ -1,4 +1,4 @@
--- Two ends of one connection, of which one acts: what is said to the other, what is heard, and when an end leaves.
+-- Two ends of one connection, of which one acts: what is sent to the other, what is received, and when an end leaves.
 use Rattle.std.specs.Prelude.{ℕ, Bool, true, false, List, [], ◌∷◌, ◌++◌, Option, None, Some}
 use Rattle.bgp_frame.specs.declared.notification.Notification.{Notification}
 use Rattle.bgp_open.specs.declared.context.Context.{Context}
@@ -15,7 +15,7 @@ use Rattle.bgp_session.specs.declared.side.Side.{Side}
 
 -- ---- an end
 
--- a session; whether it has left the connection; the octets in flight towards it; and what it sent, got, and lost in this round
+-- a session; whether it has left the connection; the octets in flight towards it; and what it sent, received, and lost in this round
 pub record End : Type 0 where
   pub session : Machine
   pub left : Bool
@@ -31,11 +31,11 @@ fresh_end s = record { session = fresh s; left = true; flight = []; sent = []; g
 abbrev pub with_session : End → Machine → End
 with_session e x = record { session = x; left = e.left; flight = e.flight; sent = e.sent; got = e.got; gone = e.gone }
 
--- it has left, and what was in flight towards it is gone
+-- it has left, and what was in flight towards it is lost
 abbrev pub away : End → End
 away e = record { session = e.session; left = true; flight = []; sent = e.sent; got = e.got; gone = e.gone }
 
--- octets come behind those in flight; where the end has left they are gone
+-- octets are appended to those in flight; where the end has left they are lost
 abbrev pub flying : Bool → List ℕ → List ℕ → List ℕ
 flying true flight octets = flight
 flying false flight octets = flight ++ octets
@@ -57,7 +57,7 @@ with_gone e routes = record { session = e.session; left = e.left; flight = e.fli
 
 -- ---- both ends
 
--- who sent a NOTIFICATION, with its code and subcode
+-- the sender of a NOTIFICATION, with its code and subcode
 abbrev pub Note : Type 0
 Note = Side × ℕ × ℕ
 
@@ -70,7 +70,7 @@ pub record Pair : Type 0 where
 abbrev pub pair : End → End → List Note → Pair
 pair this other notes = record { this = this; other = other; notes = notes }
 
--- ---- what is said
+-- ---- what is sent
 
 -- octets go in flight towards the other end
 abbrev pub said : Pair → List ℕ → Pair
@@ -95,7 +95,7 @@ all_acted side p (action ∷ later) = all_acted side (acted side p action) later
 
 -- ---- what happens to an end
 
--- an end that is told that its connection failed has left
+-- an end whose connection failed has left
 abbrev pub before_event : End → Event → End
 before_event e Failed = away e
 before_event e _ = e
@@ -106,14 +106,14 @@ told side p event =
     (pair (with_session (before_event p.this event) (after_event p.this.session event)) p.other p.notes)
     (happens p.this.session.standing event).actions
 
--- octets come to an end, and are fed one behind the other, with all that is to be done behind each
+-- octets arrive at an end, and are fed one after the other, with all that is to be done after each
 abbrev pub fed : Side → Pair → List ℕ → Pair
 fed side p octets =
     all_acted side
     (pair (with_session p.this (by_octets p.this.session octets).session) p.other p.notes)
     (by_octets p.this.session octets).actions
 
--- an UPDATE as it is told in the context of the session
+-- an UPDATE as it is sent in the context of the session
 abbrev pub told_by : Option Context → Update → List ℕ
 told_by None u = []
 told_by (Some ctx) u = told_octets ctx u

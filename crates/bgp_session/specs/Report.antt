@@ -1,4 +1,4 @@
--- What is reported of a schedule.
+-- The report of a schedule.
 use Rattle.std.specs.Prelude.{◌≡◌, Bool, List, ◌++◌}
 use Rattle.bgp_open.specs.Prelude.{Settings}
 use Rattle.bgp_session.specs.declared.moves.Move.{Move}
@@ -16,18 +16,18 @@ report_of w answers = record {
   answers = answers;
 }
 
--- the report is that of the world that these moves make of two new sessions. They used up the answers that it has, one for each call of the
--- wire, and no more: whatever answers had come later are left over
+-- the report is that of the world that these moves make of two new sessions. They used up its answers, one for each call of the
+-- wire, and no more: any later answers are left over
 pub record IsReported (a b : Settings) (moves : List Move) (report : Report) : Type 0 where
   pub world : World
   pub turns : List Turn
   pub moved_so : (later : List Bool) → all_moved moves (begins a b) (report.answers ++ later) ≡ behind turns (ran world later)
   pub reports : report ≡ report_of world report.answers
 
--- what these moves ask of a wire that gives these answers
+-- the calls that these moves make of a wire that gives these answers
 abbrev pub calls_behind : Settings → Settings → List Move → List Bool → List Call
 calls_behind a b moves answers = calls_in (all_moved moves (begins a b) answers).turns
 
--- what an observer of these moves is told, where a wire gives these answers
+-- what is reported to an observer of these moves, where a wire gives these answers
 abbrev pub sights_behind : Settings → Settings → List Move → List Bool → List Sight
 sights_behind a b moves answers = sights_in (all_moved moves (begins a b) answers).turns

@@ -1,4 +1,4 @@
--- What an observer of a run is told, and what comes of it in which order.
+-- What is reported to an observer of a run, and in which order.
 use Rattle.std.specs.Prelude.{ℕ, Bool, true, false, List, [], ◌∷◌, ◌++◌, Option, None, Some}
 use Rattle.bgp_open.specs.declared.context.Context.{Context}
 use Rattle.bgp_machine.specs.declared.action.Action.{Action}
@@ -11,8 +11,8 @@ use Rattle.bgp_update.specs.declared.update.Update.{Update}
 use Rattle.bgp_session.specs.declared.moves.Move.{Move}
 use Rattle.bgp_session.specs.declared.side.Side.{Side}
 
--- A move begins. An event was told to a side; an octet came to it; the octets that came since its last message, or since its connection
--- stands, were judged as a message, in the context that both had agreed on before; it tried to send an UPDATE, and why that wasn't sent: each
+-- A move begins. An event happened to a side; an octet arrived at it; the octets that arrived since its last message, or since its connection
+-- is up, were judged as a message, in the context that both had agreed on before; it tried to send an UPDATE, and why that wasn't sent: each
 -- with the state that the session is in then, and what it wants done. Both sides have left the connection.
 pub data Sight : Type 0 where
   Begun : Move → Sight
@@ -22,14 +22,14 @@ pub data Sight : Type 0 where
   Tried : Side → Option SendFault → State → List Action → Sight
   Ended : Sight
 
--- what an observer is once it was told these: `after` has what each makes of it
+-- the observer once these were reported to it: `after` says what it makes of each
 abbrev pub observed : {S : Type 0} → (S → Sight → S) → S → List Sight → S
 observed after s [] = s
 observed after s (sight ∷ later) = observed after (after s sight) later
 
 -- ---- what a session shows
 
--- an event is told
+-- an event happens
 abbrev pub event_seen : Side → Machine → Event → Sight
 event_seen side x event = Told side event (happens x.standing event).next.state (happens x.standing event).actions
 
@@ -41,7 +41,7 @@ step_seen side x (Some step) = Heard side x.standing.context step.next.state ste
 abbrev pub settled_seen : Side → Machine → List Sight
 settled_seen side x = step_seen side x (judged x)
 
--- an octet comes where octets are taken
+-- an octet arrives where octets are accepted
 abbrev pub came_if : Bool → Side → ℕ → List Sight
 came_if true side octet = Came side octet ∷ []
 came_if false side octet = []
@@ -55,7 +55,7 @@ abbrev pub octets_seen : Side → Machine → List ℕ → List Sight
 octets_seen side x [] = []
 octets_seen side x (octet ∷ later) = octet_seen side x octet ++ octets_seen side (by_octet x octet).session later
 
--- an UPDATE that was sent lets the Keepalive Timer begin anew, where there is one
+-- an UPDATE that was sent restarts the Keepalive Timer, where there is one
 abbrev pub keepalive_in : Option Context → List Action
 keepalive_in None = []
 keepalive_in (Some ctx) = keepalive_on ctx

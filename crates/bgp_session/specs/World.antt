@@ -14,7 +14,7 @@ use Rattle.bgp_session.specs.Sight.{Sight, Begun, Ended, event_seen, octets_seen
 use Rattle.bgp_session.specs.Wire.{Call, Joined, Handed, Cut}
 use Rattle.bgp_session.specs.Pair.{End, fresh_end, with_flight, Note, Pair, pair, told, fed, sent}
 
--- both ends and the NOTIFICATIONs of this round, the rounds that are over, whether one has begun, and what wasn't sent
+-- both ends and the NOTIFICATIONs of this round, the finished rounds, whether one has begun, and what wasn't sent
 pub record World : Type 0 where
   pub a : End
   pub b : End
@@ -40,7 +40,7 @@ abbrev pub with_pair : Side → World → Pair → World
 with_pair A w p = record { a = p.this; b = p.other; notes = p.notes; over = w.over; begun = w.begun; refused = w.refused }
 with_pair B w p = record { a = p.other; b = p.this; notes = p.notes; over = w.over; begun = w.begun; refused = w.refused }
 
--- an event comes to a side, and octets
+-- an event happens to a side, and octets arrive at it
 abbrev pub tells : Side → Event → World → World
 tells side event w = with_pair side w (told side (seen_by side w) event)
 
@@ -49,7 +49,7 @@ feeds side octets w = with_pair side w (fed side (seen_by side w) octets)
 
 -- ---- the connection
 
--- the connection stands until both have left it
+-- the connection is up until both have left it
 abbrev pub stands : World → Bool
 stands w = if w.a.left then (if w.b.left then false else true) else true
 
@@ -57,7 +57,7 @@ abbrev pub tells_if : Bool → Side → Event → World → World
 tells_if true side event w = tells side event w
 tells_if false side event w = w
 
--- what an observer is told of an event, and of octets
+-- what is reported to an observer of an event, and of octets
 abbrev pub tells_seen : Side → Event → World → List Sight
 tells_seen side event w = event_seen side (end_of side w).session event ∷ []
 
@@ -71,7 +71,7 @@ tells_if_seen false side event w = []
 abbrev pub state_of : Side → World → State
 state_of side w = (end_of side w).session.standing.state
 
--- a side for which a connection stands is told that it failed
+-- a side for which a connection is up gets the event that it failed
 abbrev pub fails_up : Side → World → World
 fails_up side w = tells_if (listens (state_of side w)) side Event.Failed w
 
@@ -111,7 +111,7 @@ refused_seen side w = tells_if_seen (seeks (state_of side w)) side Event.Failed 
 
 -- ---- rounds
 
--- what was said and heard in this round
+-- what was sent and received in this round
 abbrev pub round_of : World → Round
 round_of w = record {
   sent_a = w.a.sent;
@@ -134,7 +134,7 @@ rounds_of w = with_round w.begun w.over (round_of w)
 abbrev pub joined_end : End → End
 joined_end e = record { session = e.session; left = false; flight = []; sent = []; got = []; gone = [] }
 
--- nothing was said or heard yet
+-- nothing was sent or received yet
 abbrev pub forgetful : End → End
 forgetful e = record { session = e.session; left = e.left; flight = e.flight; sent = []; got = []; gone = [] }
 
@@ -149,24 +149,24 @@ new_round w = record { a = joined_end w.a; b = joined_end w.b; notes = []; over 
 
 -- ---- moves that the wire answers
 
--- a call of the wire, or what an observer is told
+-- a call of the wire, or a report to an observer
 pub data Turn : Type 0 where
   Asks : Call → Turn
   Shows : Sight → Turn
 
--- what the wire was asked in these turns
+-- the calls of the wire in these turns
 abbrev pub calls_in : List Turn → List Call
 calls_in [] = []
 calls_in (Asks call ∷ later) = call ∷ calls_in later
 calls_in (Shows sight ∷ later) = calls_in later
 
--- and what an observer was told
+-- and the reports to an observer
 abbrev pub sights_in : List Turn → List Sight
 sights_in [] = []
 sights_in (Asks call ∷ later) = sights_in later
 sights_in (Shows sight ∷ later) = sight ∷ sights_in later
 
--- the world, the answers of the wire that are left, and the turns that led there
+-- the world, the remaining answers of the wire, and the turns that led there
 pub record Ran : Type 0 where
   pub world : World
   pub answers : List Bool
@@ -175,15 +175,15 @@ pub record Ran : Type 0 where
 abbrev pub ran : World → List Bool → Ran
 ran w answers = record { world = w; answers = answers; turns = [] }
 
--- what comes behind these turns
+-- what follows these turns
 abbrev pub behind : List Turn → Ran → Ran
 behind turns r = record { world = r.world; answers = r.answers; turns = turns ++ r.turns }
 
--- it is shown
+-- it is reported to the observer
 abbrev pub shown : List Sight → Ran → Ran
 shown sights r = behind (map Shows sights) r
 
--- the wire is asked, and then this is shown
+-- the wire is called, and then this is reported
 abbrev pub asked : Call → List Sight → Ran → Ran
 asked call sights r = behind (Asks call ∷ map Shows sights) r
 
@@ -200,7 +200,7 @@ later_of (answer ∷ later) = later
 abbrev pub can_join : World → Bool
 can_join w = if seeks w.a.session.standing.state then (if seeks w.b.session.standing.state then (if stands w then false else true) else false) else false
 
--- both are told whether they are connected, A first
+-- both get the event that they are connected, or that it failed, A first
 abbrev pub joins : Bool → World → World
 joins true w = tells B Event.Connected (tells A Event.Connected (new_round w))
 joins false w = tells B Event.Failed (tells A Event.Failed w)
@@ -213,7 +213,7 @@ abbrev pub joined_if : Bool → World → List Bool → Ran
 joined_if true w answers = asked (Joined (answer_of answers)) (joins_seen (answer_of answers) w) (ran (joins (answer_of answers) w) (later_of answers))
 joined_if false w answers = ran w answers
 
--- a piece passes and comes to the side, and then the others; or it doesn't, and the connection is lost
+-- a piece passes and arrives at the side, and then the others; or it doesn't, and the connection is lost
 abbrev pub delivers_on : Bool → (World → List Bool → Ran) → Side → List ℕ → World → List Bool → Ran
 delivers_on true on side piece w answers = asked (Handed side piece true) (feeds_seen side piece w) (on (feeds side piece w) answers)
 delivers_on false on side piece w answers = asked (Handed side piece false) (lost_seen w) (ran (lost w) answers)
@@ -226,7 +226,7 @@ delivered (suc n) side octets w answers =
     if (end_of side w).left then ran w answers
     else delivers_on (answer_of answers) (delivered n side (drop 4096 octets)) side (take 4096 octets) w (later_of answers)
 
--- so many octets are drawn out of the flight towards a side
+-- n octets are drawn out of the flight towards a side
 abbrev pub drawn : Side → ℕ → World → World
 drawn side k w = with_pair side w (pair (with_flight (end_of side w) (drop k (end_of side w).flight)) (seen_by side w).other w.notes)
 
@@ -250,7 +250,7 @@ sends_seen side u w = tried_seen side (end_of side w).session u ∷ []
 
 -- ---- a schedule
 
--- what a move does; the answers of the wire are used up from the front
+-- what a move does; the answers of the wire are used up in order
 abbrev pub moved : Move → World → List Bool → Ran
 moved (Move.Start side) w answers = shown (tells_seen side Event.Start w) (ran (tells side Event.Start w) answers)
 moved (Move.Stop side) w answers = shown (tells_seen side Event.Stop w) (ran (tells side Event.Stop w) answers)
@@ -261,7 +261,7 @@ moved Move.Lose w answers = shown (lost_seen w) (ran (lost w) answers)
 moved (Move.Expire side timer) w answers = shown (tells_seen side (Event.Expired timer) w) (ran (tells side (Event.Expired timer) w) answers)
 moved (Move.Send side u) w answers = shown (sends_seen side u w) (ran (sends side u w) answers)
 
--- the wire is cut behind the move that ends the connection
+-- the wire is cut after the move that ends the connection
 abbrev pub cut_behind : Bool → Bool → List Turn
 cut_behind true false = Asks Cut ∷ Shows Ended ∷ []
 cut_behind _ _ = []

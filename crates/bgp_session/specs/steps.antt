@@ -1,3 +1,3 @@
--- What only private functions cite: steps of proofs, which nobody has to believe.
+-- What only private functions cite: steps of proofs, which no reader has to trust.
 pub mod Feeding
 pub mod Playing

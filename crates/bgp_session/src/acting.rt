@@ -1,4 +1,4 @@
-//! What one end does, and what the other has of it.
+//! The actions of one end, and their effect on the other.
 
 ghost use Rattle.std.specs.Prelude.{◌≡◌, [], ◌∷◌, IfOk, OnOk};
 ghost use Rattle.bgp_machine.specs.Prelude.{IsAtRest, IsReady};
@@ -13,7 +13,7 @@ use bgp_update::Update;
 use bgp_wire::List;
 use std::alloc::{AllocError, Global};
 
-/// Who sent a NOTIFICATION, its code and its subcode.
+/// The sender, the code and the subcode of a NOTIFICATION.
 pub(crate) type Note = (Side, u8, u8);
 
 /// Does one thing that the session of `this` wants done.
@@ -61,7 +61,7 @@ fn act_all(
     Ok(())
 }
 
-/// Tells `this` what happens.
+/// Delivers an event to `this`.
 pub(crate) fn tell<O: Observer>(
     alloc: Global,
     side: Side,
@@ -82,8 +82,8 @@ pub(crate) fn tell<O: Observer>(
     act_all(alloc, side, this, other, notes, actions)
 }
 
-/// Lets `this` take octets from the front of a piece, or do what is to be done on what it holds. Answers how many it took, and None where
-/// nothing is left to do.
+/// Lets `this` consume octets from the beginning of a piece, or do what is to be done on what it holds. Answers the
+/// number consumed, and None where nothing is left to do.
 fn pull<O: Observer>(
     alloc: Global,
     side: Side,
@@ -135,7 +135,7 @@ pub(crate) fn feed<O: Observer>(
     Ok(())
 }
 
-/// Lets `this` send an UPDATE. Answers why it isn't sent, where it isn't.
+/// Lets `this` send an UPDATE. Answers the reason where it isn't sent.
 pub(crate) fn send<O: Observer>(
     alloc: Global,
     side: Side,

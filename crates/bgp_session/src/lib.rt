@@ -1,6 +1,6 @@
-//! A session of BGP-4 (RFC 4271, section 8), which `bgp_machine` has and this crate hands on; and two of them that are joined by a connection:
-//! what each sends arrives at the other in order, in whatever pieces, until the connection is lost. Each delivery, expiry, stop and loss is a
-//! move of a list.
+//! A session of BGP-4 (RFC 4271, section 8), re-exported from `bgp_machine`; and two of them that are joined by a
+//! connection: what each sends arrives at the other in order, in whatever pieces, until the connection is lost. Each
+//! delivery, expiry, stop and loss is a move of a list.
 #![tactic(auto)]
 
 mod acting;

@@ -14,12 +14,12 @@ pub enum Move {
     Start(Side),
     /// The operator stops it.
     Stop(Side),
-    /// The sides are connected, where both seek a connection and there is none: a round begins. Where the wire refuses, both are told that the
-    /// connection failed.
+    /// The sides are connected, where both seek a connection and there is none: a round begins. Where the wire refuses,
+    /// both get the event that the connection failed.
     Join,
-    /// The side is told that its connection failed, where it seeks one.
+    /// The side gets the event that its connection failed, where it seeks one.
     Refuse(Side),
-    /// Up to so many of the octets in flight towards the side come to it.
+    /// Up to this number of the octets in flight towards the side arrive at it.
     Deliver(Side, u16),
     /// The connection is lost, and what is in flight with it.
     Lose,
@@ -30,7 +30,7 @@ pub enum Move {
 }
 
 impl Move {
-    /// An equal move, with memory of its own.
+    /// An equal move, owned.
     ///
     /// # Errors
     /// `AllocError` where an allocation failed.

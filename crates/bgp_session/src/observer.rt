@@ -1,4 +1,4 @@
-//! Who is told what comes of each move.
+//! An observer of the steps of a simulation.
 
 ghost use Rattle.std.specs.Prelude.{◌≡◌, List, map, OnOk};
 ghost use Rattle.std.specs.Option.{option_map};
@@ -10,8 +10,8 @@ use bgp_machine::{Action, Event, SendFault, State};
 use bgp_open::Context;
 use std::alloc::AllocError;
 
-/// Is told, move by move, what comes to each side, in which state that leaves its session, and what the session wants done on it, in order.
-/// What it makes of that is its own.
+/// Gets reports, move by move, of what arrives at each side, in which state that leaves its session, and what the
+/// session wants done on it, in order. What it makes of that is up to it.
 pub trait Observer {
     ghost use Rattle.bgp_session.specs.Sight.{Sight};
 
@@ -20,14 +20,14 @@ pub trait Observer {
 
     ghost seen: { Self → Seen };
 
-    /// What it makes of one thing that it is told.
+    /// What it makes of one report.
     ghost after: { Seen → Sight → Seen };
 
     /// A move begins.
     fn begun(&mut self, one: &Move) -> Result<(), AllocError>
         ensures { OnOk result (seen self.new ≡ after (seen self.old) (Begun one.now)) };
 
-    /// An event was told to a side.
+    /// An event happened to a side.
     fn told(
         &mut self,
         side: Side,
@@ -37,12 +37,12 @@ pub trait Observer {
     ) -> Result<(), AllocError>
         ensures { OnOk result (seen self.new ≡ after (seen self.old) (Told side event state actions.now)) };
 
-    /// Octets came to a side.
+    /// Octets arrived at a side.
     fn came(&mut self, side: Side, octets: &[u8]) -> Result<(), AllocError>
         ensures { OnOk result (seen self.new ≡ observed after (seen self.old) (map (Came side) octets.now)) };
 
-    /// The octets that came to a side since its last message, or since its connection stands, were judged as a message, in the context that
-    /// both had agreed on before.
+    /// The octets that arrived at a side since its last message, or since its connection is up, were judged as a
+    /// message, in the context that both had agreed on before.
     fn heard(
         &mut self,
         side: Side,
@@ -67,7 +67,7 @@ pub trait Observer {
         ensures { OnOk result (seen self.new ≡ after (seen self.old) Ended) };
 }
 
-/// Makes nothing of what it is told.
+/// Ignores all reports.
 #[derive(Clone, Copy)]
 pub(crate) struct Nobody;
 

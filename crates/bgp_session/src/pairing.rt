@@ -22,7 +22,7 @@ use std::alloc::{AllocError, Global};
 use std::marker::Model;
 use std::mem;
 
-/// Both speakers, the NOTIFICATIONs of this round, the rounds that are over, and the UPDATEs that weren't sent.
+/// Both speakers, the NOTIFICATIONs of this round, the finished rounds, and the UPDATEs that weren't sent.
 #[derive(Drop)]
 pub(crate) struct Pairing {
     a: Speaker,
@@ -51,7 +51,7 @@ fn seeks(state: State) -> bool
     }
 }
 
-/// A connection stands for a session in this state.
+/// A connection is up for a session in this state.
 fn listens(state: State) -> bool
     ensures { result ≡ listens state }
 {
@@ -76,7 +76,7 @@ impl Pairing {
         }
     }
 
-    /// The connection stands until both have left it.
+    /// The connection is up until both have left it.
     pub(crate) fn stands(&self) -> bool
         ensures { result ≡ stands self.now }
     {
@@ -109,7 +109,7 @@ impl Pairing {
         seeks(self.state(Side::A)) && seeks(self.state(Side::B)) && !self.stands()
     }
 
-    /// Tells a side what happens.
+    /// Delivers an event to a side.
     pub(crate) fn tell<O: Observer>(
         &mut self,
         alloc: Global,
@@ -143,7 +143,7 @@ impl Pairing {
         }
     }
 
-    /// Octets come to a side.
+    /// Octets arrive at a side.
     pub(crate) fn feed<O: Observer>(
         &mut self,
         alloc: Global,
@@ -178,7 +178,7 @@ impl Pairing {
         }
     }
 
-    /// Tells a side for which a connection stands that it failed.
+    /// Delivers the failure of the connection to a side for which it is up.
     fn fail_up<O: Observer>(
         &mut self,
         alloc: Global,
@@ -214,7 +214,7 @@ impl Pairing {
         self.fail_up(alloc, Side::B, observer)
     }
 
-    /// Tells a side that seeks a connection that it failed.
+    /// Delivers the failure of its attempt to a side that seeks a connection.
     pub(crate) fn refuse<O: Observer>(
         &mut self,
         alloc: Global,
@@ -231,7 +231,7 @@ impl Pairing {
         Ok(())
     }
 
-    /// What was said and heard since the last call, as a round.
+    /// What was sent and received since the last call, as a round.
     fn take_round(&mut self, alloc: Global) -> Round
         ensures value { result ≡ round_of self.old }
         ensures left { self.new ≡ forgotten self.old }
@@ -247,7 +247,7 @@ impl Pairing {
         }
     }
 
-    /// The round that was begun is over.
+    /// Ends the current round.
     fn end_round(&mut self, alloc: Global) -> Result<(), AllocError>
         ensures { OnOk result (self.new ≡ round_over self.old) }
     {
@@ -272,7 +272,7 @@ impl Pairing {
         Ok(())
     }
 
-    /// Draws so many octets out of the flight towards a side.
+    /// Draws `count` octets out of the flight towards a side.
     pub(crate) fn draw(&mut self, side: Side, count: usize) -> Result<Vec<u8>, AllocError>
         ensures octets { IfOk result (λ octets. octets.items ≡ take count (end_of side self.old).flight) }
         ensures drawn { OnOk result (self.new ≡ drawn side count self.old) }
@@ -284,7 +284,7 @@ impl Pairing {
         }
     }
 
-    /// Lets a side send an UPDATE. Answers why it isn't sent, where it isn't.
+    /// Lets a side send an UPDATE. Answers the reason where it isn't sent.
     fn try_send<O: Observer>(
         &mut self,
         alloc: Global,
@@ -322,7 +322,7 @@ impl Pairing {
         }
     }
 
-    /// Tells both sides whether they are connected: where they are, a round begins.
+    /// Delivers to both sides that they are connected, or that it failed: where they are, a round begins.
     pub(crate) fn connect<O: Observer>(
         &mut self,
         alloc: Global,
@@ -342,7 +342,7 @@ impl Pairing {
         self.tell(alloc, Side::B, Event::Failed, observer)
     }
 
-    /// What came of the moves, with these answers of the wire.
+    /// The outcome of the moves, with these answers of the wire.
     pub(crate) fn report(mut self, alloc: Global, answers: List<bool>) -> Result<Report, AllocError>
         ensures { IfOk result (λ report. report ≡ report_of self answers) }
     {

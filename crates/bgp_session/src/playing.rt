@@ -40,7 +40,7 @@ fn join<W: Wire, O: Observer>(
     pairing.connect(alloc, joined, observer)
 }
 
-/// Lets the wire pass octets in their place.
+/// Lets the wire pass octets, and overwrite them with what arrived.
 fn pass_octets<W: Wire>(side: Side, octets: &mut Vec<u8>, wire: &mut W) -> bool
     ensures same { W.honest wire.old ≡ true → result ≡ true → octets.new.items ≡ octets.old.items }
     ensures honest { W.honest wire.new ≡ W.honest wire.old }
@@ -76,7 +76,7 @@ fn pass<W: Wire, O: Observer>(
     Ok(passed)
 }
 
-/// Delivers so many of the octets in flight towards a side, piece by piece, until it has left.
+/// Delivers up to a number of the octets in flight towards a side, piece by piece, until it has left.
 fn deliver<W: Wire, O: Observer>(
     alloc: Global,
     pairing: &mut Pairing,
@@ -132,7 +132,7 @@ fn make<W: Wire, O: Observer>(
     }
 }
 
-/// Cuts the wire where a connection that stood doesn't any more.
+/// Cuts the wire where a connection that was up no longer is.
 #[tactic(auto, using(crate::proofs::Plays::grows_none))]
 fn cut_behind<W: Wire, O: Observer>(
     stood: bool,
@@ -199,7 +199,7 @@ fn run<W: Wire, O: Observer>(
     pairing.report(alloc, answers)
 }
 
-/// A configuration is one that can be made.
+/// Any configuration can be set.
 fn know(config: &Config)
     ensures { CanBeSet config.now }
 {
@@ -208,7 +208,8 @@ fn know(config: &Config)
     let _id = config.id();
 }
 
-/// Runs two speakers against each other over a wire, move by move, and reports what each said and heard. Both sessions begin in Idle.
+/// Runs two speakers against each other over a wire, move by move, and reports what each sent and received. Both
+/// sessions begin in Idle.
 ///
 /// Octets pass in pieces of 4096. A connection ends when both sides have left it, and the wire is cut then.
 ///
@@ -223,21 +224,21 @@ pub fn run_pair<W: Wire>(
 ) -> Result<Report, AllocError>
     // Over an honest wire the report is that of these moves with the answers that the wire gave.
     ensures reported { W.honest wire.old ≡ true → IfOk result (IsReported a b moves.now) }
-    // Then each NOTIFICATION has one of four reasons, and what was heard is a front of what was said.
+    // Then each NOTIFICATION has one of four reasons, and what was received is a prefix of what was sent.
     ensures notifications { W.honest wire.old ≡ true → IfOk result (λ report. All (RoundHasReasons a b moves.now) report.rounds) }
     ensures updates { W.honest wire.old ≡ true → IfOk result (λ report. All (HearsFronts (both_wide a b)) report.rounds) }
     // Whatever the wire, its failures rose by the answers that are false.
     ensures failures { IfOk result (λ report. W.failed wire.new ≡ failed_behind (W.failed wire.old) report.answers) }
     // Where the wire keeps its calls, they are those that gave the answers of the report.
     ensures asked { IfOk result (λ report. HasAnswered (W.calls wire.old) (W.calls wire.new) report.answers) }
-    // Over an honest wire it was asked for just what these moves ask, with these octets.
+    // Over an honest wire its calls are just those of these moves, with these octets.
     ensures handed { W.honest wire.old ≡ true → IfOk result (λ report. Grows (W.calls wire.old) (W.calls wire.new) (calls_behind a b moves.now report.answers)) }
     ensures honest { W.honest wire.new ≡ W.honest wire.old }
 {
     observe_pair(alloc, a, b, moves, wire, &mut Nobody)
 }
 
-/// As [`run_pair`], and tells an observer what comes of each move while it is made.
+/// As [`run_pair`], and reports the effects of each move to an observer while it is made.
 ///
 /// # Errors
 /// As `run_pair`, and where the observer's call fails.
@@ -251,16 +252,16 @@ pub fn observe_pair<W: Wire, O: Observer>(
 ) -> Result<Report, AllocError>
     // Over an honest wire the report is that of these moves with the answers that the wire gave.
     ensures reported { W.honest wire.old ≡ true → IfOk result (IsReported a b moves.now) }
-    // Then each NOTIFICATION has one of four reasons, and what was heard is a front of what was said.
+    // Then each NOTIFICATION has one of four reasons, and what was received is a prefix of what was sent.
     ensures notifications { W.honest wire.old ≡ true → IfOk result (λ report. All (RoundHasReasons a b moves.now) report.rounds) }
     ensures updates { W.honest wire.old ≡ true → IfOk result (λ report. All (HearsFronts (both_wide a b)) report.rounds) }
     // Whatever the wire, its failures rose by the answers that are false.
     ensures failures { IfOk result (λ report. W.failed wire.new ≡ failed_behind (W.failed wire.old) report.answers) }
     // Where the wire keeps its calls, they are those that gave the answers of the report.
     ensures asked { IfOk result (λ report. HasAnswered (W.calls wire.old) (W.calls wire.new) report.answers) }
-    // Over an honest wire it was asked for just what these moves ask, with these octets.
+    // Over an honest wire its calls are just those of these moves, with these octets.
     ensures handed { W.honest wire.old ≡ true → IfOk result (λ report. Grows (W.calls wire.old) (W.calls wire.new) (calls_behind a b moves.now report.answers)) }
-    // Then the observer was told all that these moves show, in order, and nothing else.
+    // Then all that these moves show was reported to the observer, in order, and nothing else.
     ensures seen { W.honest wire.old ≡ true → IfOk result (λ report. O.seen observer.new ≡ observed O.after (O.seen observer.old) (sights_behind a b moves.now report.answers)) }
     ensures honest { W.honest wire.new ≡ W.honest wire.old }
 {

@@ -1,4 +1,4 @@
-//! What comes of a schedule.
+//! The outcome of a schedule.
 
 ghost use Rattle.std.specs.Prelude.{◌≡◌, IfOk};
 
@@ -8,7 +8,7 @@ use bgp_update::{PathInfo, Routes, Update};
 use bgp_wire::{List, TryCopy};
 use std::alloc::{AllocError, Global};
 
-/// What both sides said and heard over one connection, each in order.
+/// What both sides sent and received over one connection, each in order.
 #[derive(Drop, PartialEq)]
 pub struct Round {
     /// The UPDATEs that were sent by A, as they were given.
@@ -23,25 +23,25 @@ pub struct Round {
     pub gone_a: List<Routes>,
     /// The routes that B lost to messages that are treated as withdrawals.
     pub gone_b: List<Routes>,
-    /// The NOTIFICATIONs: who sent it, its code and its subcode.
+    /// The NOTIFICATIONs: the sender, the code and the subcode of each.
     pub notes: List<(Side, u8, u8)>,
 }
 
-/// What came of a schedule.
+/// The outcome of a schedule.
 #[derive(Drop, PartialEq)]
 pub struct Report {
     /// A round for each connection.
     pub rounds: List<Round>,
     /// The UPDATEs that weren't sent: whose, and why.
     pub refused: List<(Side, SendFault)>,
-    /// Where A and B stand at the end.
+    /// The states of A and B at the end.
     pub states: (State, State),
     /// What the wire answered to each `join` and `pass`, in order.
     pub answers: List<bool>,
 }
 
 impl Round {
-    /// An equal round, with memory of its own.
+    /// An equal round, owned.
     ///
     /// # Errors
     /// `AllocError` where an allocation failed.
@@ -74,7 +74,7 @@ impl TryCopy for Round {
 }
 
 impl Report {
-    /// An equal report, with memory of its own.
+    /// An equal report, owned.
     ///
     /// # Errors
     /// `AllocError` where an allocation failed.

@@ -13,7 +13,7 @@ use std::alloc::{AllocError, Global};
 use std::marker::Model;
 use std::mem;
 
-/// A session, the octets in flight towards it, and what it said and heard in this round.
+/// A session, the octets in flight towards it, and what it sent and received in this round.
 #[derive(Drop)]
 pub(crate) struct Speaker {
     pub(crate) session: Session,
@@ -47,7 +47,7 @@ impl Speaker {
         }
     }
 
-    /// It leaves the connection: what is in flight towards it is gone.
+    /// It leaves the connection: what is in flight towards it is lost.
     pub(crate) fn leave(&mut self)
         ensures { self.new ≡ away self.old }
     {
@@ -55,7 +55,7 @@ impl Speaker {
         self.flight.clear();
     }
 
-    /// Octets go in flight towards it, unless it has left.
+    /// Puts octets in flight towards it, unless it has left.
     pub(crate) fn await_octets(&mut self, octets: &[u8]) -> Result<(), AllocError>
         ensures { OnOk result (self.new ≡ towards self.old octets.now) }
     {
@@ -65,7 +65,7 @@ impl Speaker {
         self.flight.extend_from_slice(octets)
     }
 
-    /// Draws so many octets out of the flight, or all where there are fewer.
+    /// Draws `count` octets out of the flight, or all where there are fewer.
     pub(crate) fn draw(&mut self, count: usize) -> Result<Vec<u8>, AllocError>
         ensures octets { IfOk result (λ octets. octets.items ≡ take count self.old.flight) }
         ensures drawn { OnOk result (self.new ≡ with_flight self.old (drop count self.old.flight)) }
@@ -74,7 +74,7 @@ impl Speaker {
     }
 }
 
-/// Takes so many octets from the front, or all where there are fewer.
+/// Removes the first `count` octets, or all where there are fewer.
 pub(crate) fn take_front(octets: &mut Vec<u8>, count: usize) -> Result<Vec<u8>, AllocError>
     ensures front { IfOk result (λ front. front.items ≡ take count octets.old.items) }
     ensures back { OnOk result (octets.new.items ≡ drop count octets.old.items) }

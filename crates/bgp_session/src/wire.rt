@@ -20,7 +20,7 @@ pub trait Wire {
         ensures failed { failed self.new ≡ failed_after (failed self.old) result }
         ensures kept { Grows (calls self.old) (calls self.new) (Joined result ∷ []) };
 
-    /// Sends the octets to this side, and puts what came in their place. Answers whether it did.
+    /// Sends the octets to this side, and overwrites them with what arrived. Answers whether it did.
     fn pass(&mut self, to: Side, octets: &mut [u8]) -> bool
         ensures same { honest self.old ≡ true → result ≡ true → octets.new ≡ octets.old }
         ensures honest { honest self.new ≡ honest self.old }
@@ -33,7 +33,7 @@ pub trait Wire {
         ensures failed { failed self.new ≡ failed self.old }
         ensures kept { Grows (calls self.old) (calls self.new) (Cut ∷ []) };
 
-    /// How often `join` or `pass` has answered false: 4,294,967,295 stands for that many and for more.
+    /// How often `join` or `pass` has answered false: the count saturates at 4,294,967,295.
     fn failures(&self) -> u32
         ensures { result ≡ failed self.now };
 }

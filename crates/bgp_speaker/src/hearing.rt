@@ -1,4 +1,4 @@
-//! The octets of the peer: each whole message is printed, and handed to the session.
+//! The octets of the peer: each whole message is printed, and passed to the session.
 
 ghost use Rattle.std.specs.Prelude.{◌+◌, length};
 ghost use Rattle.bgp_frame.specs.Prelude.{IsLength};
@@ -22,7 +22,7 @@ const HEADER_LEN: usize = 19;
 /// The host of this program.
 pub(crate) type Speaker<'a> = Host<TcpConnection<'a>, Timers<'a>, Teller<'a>>;
 
-/// The context in which a message is printed that comes before both have agreed on one: nothing is agreed on.
+/// The context in which a message is printed that arrives before both have agreed on one: nothing is agreed on.
 const NARROW: Context = Context {
     internal: false,
     as4: false,
@@ -31,21 +31,21 @@ const NARROW: Context = Context {
     hold: 0,
 };
 
-/// What came and isn't a whole message so far, and what there was.
+/// The octets of an incomplete message, and the counts so far.
 #[derive(Drop)]
 pub(crate) struct Ear<'a> {
     voice: Voice<'a>,
     held: Vec<u8>,
-    /// The octets of all messages so far.
+    /// The total length of all messages so far.
     place: u64,
-    /// The messages so far.
+    /// The number of messages so far.
     pub(crate) messages: u64,
     /// A message was at fault.
     pub(crate) faulty: bool,
 }
 
 impl<'a> Ear<'a> {
-    /// Nothing has come.
+    /// Nothing has been received.
     pub(crate) fn new(voice: Voice<'a>) -> Ear<'a> {
         Ear {
             voice,
@@ -96,7 +96,8 @@ impl<'a> Ear<'a> {
         print!(self.voice.rt; "{text}")
     }
 
-    // Prints what the octets begin with, and hands it to the session. Answers how many octets that took: none where a message isn't whole.
+    // Prints what the octets begin with, and passes it to the session. Answers the number of octets consumed: none
+    // where a message is incomplete.
     fn hear_one(&mut self, host: &mut Speaker<'a>, octets: &[u8]) -> io::Result<usize> {
         let len = match front(octets) {
             Step::More => return Ok(0),
@@ -125,7 +126,8 @@ impl<'a> Ear<'a> {
         Ok(len)
     }
 
-    /// Takes octets that came: each whole message is printed and handed to the session, until that has left or there were so many.
+    /// Receives octets: each whole message is printed and passed to the session, until that has left or `most` messages
+    /// were received.
     pub(crate) fn hear(
         &mut self,
         host: &mut Speaker<'a>,
@@ -148,7 +150,7 @@ impl<'a> Ear<'a> {
         Ok(self.held.extend_from_slice(rest)?)
     }
 
-    /// Whether there were as many messages as are wanted.
+    /// Whether the requested number of messages was received.
     pub(crate) fn has_enough(&self, most: Option<u64>) -> bool {
         match most {
             Some(most) => self.messages >= most,
@@ -157,7 +159,7 @@ impl<'a> Ear<'a> {
     }
 }
 
-/// Whether the connection stands for a session in this state.
+/// Whether the connection is up for a session in this state.
 pub(crate) fn is_up(state: State) -> bool {
     match state {
         State::OpenSent | State::OpenConfirm | State::Established => true,

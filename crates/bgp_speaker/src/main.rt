@@ -21,7 +21,7 @@ use bgp_words::{explain, status_of, words};
 use std::io;
 use std::process::ExitCode;
 
-// Does what the words ask for, and answers the status.
+// Does what the command line asks for, and answers the status.
 fn run(rt: &HostRuntime) -> io::Result<u8> {
     let words = words(rt)?;
     let words: Vec<&str> = words.iter().map(|word| word.as_str()).collect(rt.alloc())?;

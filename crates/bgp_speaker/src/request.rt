@@ -1,4 +1,4 @@
-//! What the words of the command line ask for.
+//! The request of the command line.
 
 ghost use Rattle.std.specs.Prelude.{◌≤◌, IfOk, IfSome};
 
@@ -9,11 +9,11 @@ use clap::{ArgMatches, Error};
 use std::alloc::Global;
 use std::net::{IpAddr, Ipv4Addr, SocketAddr};
 
-/// What the words ask for.
+/// What the command line asks for.
 #[derive(Clone, Copy)]
 pub(crate) struct Request<'a> {
     pub(crate) config: Config,
-    /// Where the peer listens, or where it is waited for.
+    /// The address where the peer listens, or where this program does.
     pub(crate) address: &'a str,
     /// The peer connects.
     pub(crate) listens: bool,
@@ -21,9 +21,9 @@ pub(crate) struct Request<'a> {
     pub(crate) source: Option<IpAddr>,
     /// The file of the UPDATEs that are sent.
     pub(crate) file: Option<&'a str>,
-    /// After how many messages of the peer the session is stopped.
+    /// The number of the peer's messages after which the session is stopped.
     pub(crate) messages: Option<u64>,
-    /// After how many seconds the session is stopped.
+    /// The number of seconds after which the session is stopped.
     pub(crate) seconds: Option<u64>,
     pub(crate) json: bool,
 }
@@ -33,7 +33,7 @@ fn bad(alloc: Global, text: &str) -> Error {
     bad_value(speaker(alloc), text)
 }
 
-// The number that an argument has, where it has one.
+// The number of an argument, where it is present.
 fn number(
     alloc: Global,
     found: &ArgMatches<'_>,
@@ -73,7 +73,7 @@ fn text_of(why: BadConfig) -> &'static str {
     }
 }
 
-// What the speaker is set to.
+// The speaker's settings.
 fn config(alloc: Global, found: &ArgMatches<'_>) -> Result<Config, Error> {
     let local_as = number(alloc, found, "local-as", u32::MAX as u64)?.unwrap_or(0) as u32;
     let peer_as = number(alloc, found, "peer-as", u32::MAX as u64)?.unwrap_or(0) as u32;
@@ -119,7 +119,7 @@ fn asked<'a>(alloc: Global, found: &ArgMatches<'a>) -> Result<Request<'a>, Error
     })
 }
 
-/// What the words, which stand without the program's name, ask for.
+/// What the words of the command line, without the program's name, ask for.
 pub(crate) fn parse<'a>(alloc: Global, words: &'a [&'a str]) -> Result<Request<'a>, Error> {
     let found = speaker(alloc)?.try_get_matches_from(words)?;
     asked(alloc, &found)

@@ -7,13 +7,13 @@ use std::os::fd::OwnedFd;
 use std::time::Duration;
 use std::{io, thread};
 
-/// How many milliseconds are slept between two looks at a connection that is sought.
+/// The milliseconds slept between two checks of a connection that is being made.
 const PAUSE: u64 = 20;
 
-/// How often it is looked at: for 10 seconds.
+/// The number of checks: for 10 seconds.
 const LOOKS: u64 = 500;
 
-/// Connects from an address of this machine, of the family of the other one, and waits until the connection stands.
+/// Connects from an address of this machine, of the same family as the other one, and waits until the connection is up.
 pub(crate) fn connect(rt: &HostRuntime, source: IpAddr, to: SocketAddr) -> io::Result<TcpStream> {
     let stream = connect_from(rt, source, to)?;
     for _look in 0..LOOKS {

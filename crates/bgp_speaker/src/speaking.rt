@@ -16,26 +16,26 @@ use std::io;
 use std::io::ErrorKind;
 use std::time::{Duration, Instant};
 
-/// How many octets are read at once.
+/// The number of octets read at once.
 const PIECE: usize = 65536;
 
-/// How many milliseconds are waited where nothing else is to be done.
+/// The milliseconds waited where nothing else is to be done.
 const LONG: u64 = 1000;
 
-/// How many milliseconds are waited where the time is over, or there is more to send.
+/// The milliseconds waited where the time is over, or there is more to send.
 const SHORT: u64 = 1;
 
-/// How many UPDATEs are sent before it is read again.
+/// The number of UPDATEs sent before the next read.
 const BATCH: usize = 16;
 
-/// A conversation: the session with its connection, what it hears, and what is still to be sent.
+/// A conversation: the session with its connection, its input, and what remains to be sent.
 #[derive(Drop)]
 struct Conversation<'a> {
     rt: &'a HostRuntime,
     voice: Voice<'a>,
     host: Speaker<'a>,
     ear: Ear<'a>,
-    /// UPDATEs that are to be sent, and how many were.
+    /// UPDATEs to be sent, and the number sent.
     updates: Vec<Update>,
     sent: usize,
     /// An UPDATE couldn't be sent, or the connection was lost.
@@ -44,7 +44,7 @@ struct Conversation<'a> {
     until: Option<Instant>,
 }
 
-// When so many seconds are over.
+// The time when this many seconds are over.
 fn end_of(rt: &HostRuntime, seconds: Option<u64>) -> io::Result<Option<Instant>> {
     let Some(seconds) = seconds else {
         return Ok(None);
@@ -52,7 +52,7 @@ fn end_of(rt: &HostRuntime, seconds: Option<u64>) -> io::Result<Option<Instant>>
     Ok(Instant::now(rt)?.checked_add(Duration::from_secs(seconds)))
 }
 
-// How long it is from now until then, and at least a millisecond.
+// The time from now until then, and at least a millisecond.
 fn wait_until(now: Instant, then: Option<Instant>) -> Duration {
     match then {
         Some(then) => then
@@ -73,7 +73,7 @@ impl<'a> Conversation<'a> {
         over || self.ear.has_enough(self.messages)
     }
 
-    // Tells the session which timers have expired. Answers when the next one does.
+    // Reports the expired timers to the session. Answers when the next one does.
     fn expire(&mut self, now: Instant) -> io::Result<Option<Instant>> {
         for _turn in 0..4 {
             match self.host.clock.first() {
@@ -108,7 +108,7 @@ impl<'a> Conversation<'a> {
         true
     }
 
-    // Reads what came within a time, and hears it.
+    // Reads what arrives within a time, and processes it.
     fn read(&mut self, octets: &mut [u8], wait: Duration) -> io::Result<()> {
         match self.host.connection.read(octets, wait) {
             Came::Nothing => Ok(()),
@@ -125,7 +125,7 @@ impl<'a> Conversation<'a> {
         }
     }
 
-    // One turn: timers, what is to be sent, and what came.
+    // One turn: timers, what is to be sent, and what arrived.
     fn turn(&mut self, octets: &mut [u8]) -> io::Result<()> {
         let now = Instant::now(self.rt)?;
         if self.is_over(now) {
@@ -145,7 +145,7 @@ impl<'a> Conversation<'a> {
         self.read(octets, wait)
     }
 
-    // What went wrong outside the session.
+    // The errors outside the session.
     fn check(&self) -> io::Result<()> {
         if self.host.clock.broken {
             return Err(io::Error::from(ErrorKind::Unsupported));
@@ -156,7 +156,7 @@ impl<'a> Conversation<'a> {
         Ok(())
     }
 
-    // Speaks until the session has left.
+    // Runs until the session has left.
     fn go_on(&mut self) -> io::Result<()> {
         let mut octets = vec![in self.rt.alloc(); 0_u8; PIECE]?;
         for _turn in 0..u64::MAX {
@@ -169,7 +169,7 @@ impl<'a> Conversation<'a> {
         Ok(())
     }
 
-    // Starts the session, and speaks until it has left. Answers the status.
+    // Starts the session, and runs until it has left. Answers the status.
     fn speak(&mut self) -> io::Result<u8> {
         self.host.tell(Event::Start);
         if !is_up(self.host.session().state()) {
@@ -247,7 +247,7 @@ fn updates_of(rt: &HostRuntime, file: Option<&str>) -> io::Result<Result<Vec<Upd
     }
 }
 
-/// Speaks with a peer as the words ask, and answers the status.
+/// Speaks with a peer as the command line asks, and answers the status.
 pub(crate) fn speak(rt: &HostRuntime, request: &Request<'_>) -> io::Result<u8> {
     match updates_of(rt, request.file)? {
         Ok(updates) => run(rt, request, updates),

@@ -11,13 +11,13 @@ use std::net::{IpAddr, SocketAddr, TcpListener, TcpStream};
 use std::time::{Duration, Instant};
 use std::{io, thread};
 
-/// How many seconds a write may wait for the peer to read.
+/// The seconds that a write may wait for the peer to read.
 const PATIENCE: u64 = 10;
 
-/// How many milliseconds are slept between two tries to connect or to accept.
+/// The milliseconds slept between two attempts to connect or to accept.
 const PAUSE: u64 = 20;
 
-/// One connection, which is sought once.
+/// One connection, which is made once.
 #[derive(Drop)]
 pub(crate) struct TcpConnection<'a> {
     voice: Voice<'a>,
@@ -34,10 +34,10 @@ pub(crate) struct TcpConnection<'a> {
     pub(crate) mute: bool,
 }
 
-/// What a read brought.
+/// The result of a read.
 #[derive(Clone, Copy)]
 pub(crate) enum Came {
-    /// So many octets.
+    /// This number of octets.
     Octets(usize),
     /// None within the time.
     Nothing,
@@ -45,7 +45,7 @@ pub(crate) enum Came {
     End,
 }
 
-// A stream sends what it is given at once, and waits for no peer forever.
+// Sets a stream to send without delay, and to wait for the peer only for a limited time.
 fn set_up(stream: TcpStream) -> io::Result<TcpStream> {
     stream.set_nonblocking(false)?;
     stream.set_nodelay(true)?;
@@ -53,7 +53,7 @@ fn set_up(stream: TcpStream) -> io::Result<TcpStream> {
     Ok(stream)
 }
 
-// Whether octets are a NOTIFICATION, but for a Cease.
+// Whether octets are a NOTIFICATION other than a Cease.
 fn blames(octets: &[u8]) -> bool {
     match front(octets) {
         Step::Frame(frame) => match told_in(frame) {
@@ -85,7 +85,7 @@ impl<'a> TcpConnection<'a> {
         }
     }
 
-    // Whether there is time for one more try.
+    // Whether there is time for one more attempt.
     fn has_time(&self, began: Instant) -> bool {
         let Ok(now) = Instant::now(self.voice.rt) else {
             return false;
@@ -125,7 +125,7 @@ impl<'a> TcpConnection<'a> {
         Ok(Some(listener))
     }
 
-    // Tries until there is a connection, or no time is left.
+    // Tries until there is a connection, or the time is over.
     fn find(&self) -> io::Result<Option<TcpStream>> {
         let began = Instant::now(self.voice.rt)?;
         let listener = self.listener()?;
@@ -141,7 +141,7 @@ impl<'a> TcpConnection<'a> {
         Ok(None)
     }
 
-    /// Reads what has come, and waits for it no longer than this, which isn't 0.
+    /// Reads what has arrived, and waits for it at most this long, which isn't 0.
     pub(crate) fn read(&mut self, octets: &mut [u8], wait: Duration) -> Came {
         let Some(stream) = &mut self.stream else {
             return Came::End;

@@ -36,7 +36,7 @@ impl<'a> Timers<'a> {
         }
     }
 
-    /// A timer has expired: it doesn't run any more.
+    /// A timer has expired: it no longer runs.
     pub(crate) fn stop(&mut self, timer: Timer) {
         self.set(timer, None);
     }

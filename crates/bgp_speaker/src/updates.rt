@@ -7,10 +7,10 @@ use std::alloc::{AllocError, Global};
 use std::io::Read;
 use std::{fs, io};
 
-/// The octets that a file may have.
+/// The greatest length of a file.
 const FILE_MAX: u64 = 64 << 20;
 
-/// The context in which a file's UPDATEs are read: both families, and AS numbers of four octets.
+/// The context in which a file's UPDATEs are read: both families, and 4-octet AS numbers.
 const WIDE: Context = Context {
     internal: false,
     as4: true,
@@ -25,7 +25,7 @@ pub(crate) enum Reading {
     Bad(u64),
 }
 
-// The UPDATE that octets begin with, where it is accepted as it stands, and how many octets its message has.
+// The UPDATE that octets begin with, where it is accepted without a note, and the length of its message.
 fn first_update(alloc: Global, octets: &[u8]) -> Result<Option<(usize, Update)>, AllocError> {
     let Step::Frame(frame) = front(octets) else {
         return Ok(None);

@@ -1,4 +1,4 @@
-//! What is printed of a session, beside the peer's messages.
+//! What is printed of a session, besides the peer's messages.
 
 use bgp_frame::{Frame, Kind, Step, front};
 use bgp_host::Observer;
@@ -32,7 +32,7 @@ pub(crate) fn told_in(frame: Frame<'_>) -> Option<(u8, u8)> {
 }
 
 impl Voice<'_> {
-    // One word alone.
+    // One word on a line.
     fn word(self, line: &str, kind: &str) -> io::Result<()> {
         if self.json {
             return println!(self.rt; "{{\"kind\":\"{kind}\"}}");
@@ -40,7 +40,7 @@ impl Voice<'_> {
         println!(self.rt; "{line}")
     }
 
-    /// A connection is sought, or waited for.
+    /// A connection is being made, or awaited.
     pub(crate) fn seeks(self, address: &str, listens: bool) -> io::Result<()> {
         match (self.json, listens) {
             (true, true) => println!(self.rt; "{{\"kind\":\"LISTEN\",\"address\":{address:?}}}"),
@@ -89,12 +89,12 @@ impl Voice<'_> {
         println!(self.rt; "expired {timer:?}")
     }
 
-    // The routes of the peer are gone.
+    // The routes of the peer are flushed.
     fn flushed(self) -> io::Result<()> {
         self.word("flush", "FLUSH")
     }
 
-    // Where the session stands.
+    // The state of the session.
     fn stands(self, state: State) -> io::Result<()> {
         if self.json {
             return println!(self.rt; "{{\"kind\":\"STATE\",\"state\":\"{state:?}\"}}");
@@ -102,7 +102,7 @@ impl Voice<'_> {
         println!(self.rt; "state {state:?}")
     }
 
-    /// The end, and how many messages of the peer there were.
+    /// The end, and the number of the peer's messages.
     pub(crate) fn ends(self, messages: u64) -> io::Result<()> {
         if self.json {
             return println!(self.rt; "{{\"kind\":\"END\",\"messages\":{messages}}}");
@@ -111,7 +111,8 @@ impl Voice<'_> {
     }
 }
 
-/// Prints what becomes of routes, and the state as it changes. The routes themselves are printed with the peer's messages.
+/// Prints what is done with routes, and the state as it changes. The routes themselves are printed with the peer's
+/// messages.
 #[derive(Drop)]
 pub(crate) struct Teller<'a> {
     pub(crate) voice: Voice<'a>,
@@ -123,7 +124,7 @@ pub(crate) struct Teller<'a> {
 }
 
 impl<'a> Teller<'a> {
-    /// Who has told nothing so far.
+    /// One that has printed nothing so far.
     pub(crate) fn new(voice: Voice<'a>) -> Teller<'a> {
         Teller {
             voice,

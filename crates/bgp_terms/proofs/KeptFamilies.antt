@@ -5,7 +5,7 @@ use Rattle.std.specs.List.{filter}
 use Rattle.bgp_terms.specs.declared.family.Family.{Family}
 use Rattle.bgp_terms.specs.Prelude.{also_family, one_or_none, sharing}
 
--- of what is cut off nothing comes back
+-- families cut off before have no effect on what is kept
 pub take-front : (n : ℕ) (a b : List Family) → take n (take n a ++ b) ≡ take n (a ++ b)
 take-front zero a b = refl
 take-front (suc n) [] b = refl
@@ -28,7 +28,7 @@ few_kept list len within = let l = length-take len list in omega arith
 pub none_offered : (list : List Family) (len : ℕ) (o : Option Family) → len ≤ 42 → None ≡ o → take len list ≡ also_family (take len list) (one_or_none o)
 none_offered list len o within none = subst (λ (x : Option Family). take len list ≡ also_family (take len list) (one_or_none x)) none (all_kept (take len list) (few_kept list len within))
 
--- a store after those that are kept
+-- a store after the families that are kept
 pub one_more : (list : List Family) (len : ℕ) (family : Family) → len < 42 → length list ≡ 42 → take (len + 1) (set list len family) ≡ also_family (take len list) (family ∷ [])
 one_more list len family room size =
     let l = length-take len list in
@@ -41,7 +41,7 @@ no_more list len family full within size =
     let l = length-take len list in
     sym (take-append-le 42 (take len list) (family ∷ []) (omega arith) ∙ take_all 42 (take len list) (omega arith))
 
--- ---- those that both have
+-- ---- the families that both offer
 
 sharing-one : (test : Family → Bool) (fs : List Family) (family : Family) (later : List Family)
     → ((gs : List Family) → take 42 gs ≡ gs → sharing test gs later ≡ take 42 (gs ++ filter test later)) → (t : Bool) → take 42 fs ≡ fs

@@ -1,17 +1,17 @@
--- What capabilities offer one by one is what they offer together.
+-- What is collected capability by capability is what all capabilities offer together.
 use Rattle.std.proofs.Common.{◌≡◌, Bool, ◌||◌, List, [], ◌∷◌, ◌++◌, take, refl, sym, ap, ◌∙◌, append_assoc}
 use Rattle.std.specs.List.{list_any}
 use Rattle.std.proofs.Math.Bool.{or-false, or_assoc}
 use Rattle.std.proofs.lemmas.List.{append-nil}
 use Rattle.bgp_numbers.specs.declared.afi.TheConstants.{IPV4, IPV6}
-use Rattle.bgp_terms.specs.declared.capability.TheConstants.{ROUTE_REFRESH, EXTENDED_MESSAGE, ENHANCED_ROUTE_REFRESH}
+use Rattle.bgp_numbers.specs.declared.capability.TheConstants.{ROUTE_REFRESH, EXTENDED_MESSAGE, ENHANCED_ROUTE_REFRESH}
 use Rattle.bgp_open.specs.declared.capability.Capability.{Capability}
 use Rattle.bgp_terms.specs.declared.family.Family.{Family}
 use Rattle.bgp_terms.specs.declared.paths.Role.TheVariants.{Reads, Sends}
 use Rattle.bgp_terms.specs.Prelude.{Offered, no_offer, offered_by, offering_more, offers_hop6, offers_more, offers_plain, offers_role, one_or_none, opaque_families, opaque_of}
 use Rattle.bgp_terms.proofs.KeptFamilies.{kept-again, take-front}
 
--- what was offered, and what these capabilities offer
+-- what was collected so far, and what these capabilities add
 abbrev with : Offered → List Capability → Offered
 with p caps = record {
   refresh = p.refresh || list_any (offers_plain ROUTE_REFRESH) caps;
@@ -43,6 +43,6 @@ offering-with p (c ∷ later) kept =
     (or_assoc p.reads4 (offers_role Reads IPV4 c) _) (or_assoc p.sends4 (offers_role Sends IPV4 c) _) (or_assoc p.reads6 (offers_role Reads IPV6 c) _) (or_assoc p.sends6 (offers_role Sends IPV6 c) _)
     (take-front 42 (p.families ++ one_or_none (opaque_of c)) (opaque_families later) ∙ ap (take 42) (append_assoc p.families (one_or_none (opaque_of c)) (opaque_families later)))
 
--- capabilities offer what they offer one by one
+-- what capabilities offer is collected one by one
 pub offering-all : (p : Offered) (caps others : List Capability) → p ≡ no_offer → caps ≡ others → offering_more p caps ≡ offered_by others
 offering-all p caps others none these = rw (none, these) (offering-with no_offer others refl)

@@ -1,4 +1,4 @@
--- Who reads and who sends path identifiers is what bgp_open finds, whose roles have no name here.
+-- Who receives and who sends path identifiers is as bgp_open finds, whose private roles have no name here.
 use Rattle.bgp_wire.proofs.Std.{◌≡◌, ℕ, Bool, false, ◌&&◌, ◌||◌, ◌==◌, List, [], ◌∷◌, refl, ap, ◌∙◌, list_any, from_be_bytes, w16}
 use Rattle.std.proofs.Math.Bool.{and_comm}
 use Rattle.bgp_numbers.specs.declared.afi.TheConstants.{IPV4, IPV6}
@@ -12,7 +12,7 @@ use Rattle.bgp_terms.specs.declared.paths.Role.{Role}
 use Rattle.bgp_terms.specs.declared.paths.Role.TheVariants.{Reads, Sends}
 use Rattle.bgp_terms.specs.Prelude.{does, has_role, offers_role, terms_of}
 
--- a test that goes through a row as this one does
+-- a test that reads a row as `has_role` does
 abbrev IsRole : Role → ℕ → (List ℕ → Bool) → Type 0
 IsRole role family f =
     (f [] ≡ false) × (((a : ℕ) → f (a ∷ []) ≡ false) × (((a b : ℕ) → f (a ∷ b ∷ []) ≡ false) × (((a b c : ℕ) → f (a ∷ b ∷ c ∷ []) ≡ false)
@@ -28,7 +28,7 @@ roles role family f is (a ∷ b ∷ safi ∷ code ∷ later) =
     is.1.1.1.1 a b safi code later
     ∙ ap (λ (x : Bool). ((from_be_bytes w16 (a ∷ b ∷ []) == family) && ((safi == UNICAST) && does role code)) || x) (roles role family f is later)
 
--- and a test of capabilities that has it
+-- and a test of capabilities that uses it
 abbrev Understands : (List ℕ → Bool) → (Capability → Bool) → Type 0
 Understands f g =
     ((code : ℕ) (value : List ℕ) → g (Other code value) ≡ ((code == ADD_PATH) && (is_path_row value && f value)))

@@ -1,10 +1,10 @@
 -- What an OPEN offers beyond a context (RFC 5492). A capability whose value has a wrong length, or path identifiers with another Send/Receive than 1
--- to 3, isn't understood as a whole; capabilities count in any order, and a second time as once.
+-- to 3, isn't understood as a whole; the order of capabilities doesn't matter, and a repetition has no effect but on families.
 use Rattle.std.specs.Prelude.{ℕ, Bool, true, false, ◌&&◌, ◌||◌, ◌==◌, List, [], ◌∷◌, take}
 use Rattle.std.specs.Int.{w16, from_be_bytes}
 use Rattle.std.specs.List.{list_any}
 use Rattle.bgp_numbers.specs.declared.afi.TheConstants.{IPV4, IPV6}
-use Rattle.bgp_terms.specs.declared.capability.TheConstants.{ROUTE_REFRESH, EXTENDED_NEXT_HOP, EXTENDED_MESSAGE, ENHANCED_ROUTE_REFRESH}
+use Rattle.bgp_numbers.specs.declared.capability.TheConstants.{ROUTE_REFRESH, EXTENDED_NEXT_HOP, EXTENDED_MESSAGE, ENHANCED_ROUTE_REFRESH}
 use Rattle.bgp_numbers.specs.declared.safi.TheConstants.{UNICAST}
 use Rattle.bgp_open.specs.declared.capability.Capability.{Capability}
 use Rattle.bgp_open.specs.declared.capability.Capability.TheVariants.{Multi, As4, Other}
@@ -14,8 +14,8 @@ use Rattle.bgp_terms.specs.declared.paths.Role.TheVariants.{Reads, Sends}
 use Rattle.bgp_terms.specs.Families.{also_family, families_in, one_or_none, opaque_families, opaque_of}
 use Rattle.bgp_terms.specs.Paths.{offers_role}
 
--- ROUTE-REFRESH, and that it says where it begins and ends; messages of up to 65535 octets; IPv4 routes with an IPv6 next hop; whether path identifiers
--- of IPv4 and of IPv6 unicast routes are read and are sent; and the families beyond these two
+-- ROUTE-REFRESH, and the demarcation of a refresh; messages of up to 65535 octets; IPv4 routes with an IPv6 next hop; whether path identifiers
+-- of IPv4 and of IPv6 unicast routes are received and are sent; and the families beyond these two
 pub record Offered : Type 0 where
   pub refresh : Bool
   pub enhanced : Bool
@@ -37,8 +37,8 @@ offers_plain wanted (Other code value) = (code == wanted) && is_nothing value
 offers_plain wanted (Multi afi safi) = false
 offers_plain wanted (As4 number) = false
 
--- A row of families, each with the family of its next hops in six octets: AFI 2, SAFI 2, next hop's AFI 2 (RFC 8950, section 4). Where octets are left,
--- the capability isn't understood.
+-- A row of families, each with the family of its next hops in six octets: AFI 2, SAFI 2, next hop's AFI 2 (RFC 8950, section 4). Where octets are
+-- left over, the capability isn't understood.
 abbrev pub is_hop_row : List ℕ → Bool
 is_hop_row [] = true
 is_hop_row (a ∷ b ∷ c ∷ d ∷ e ∷ f ∷ later) = is_hop_row later
@@ -73,7 +73,7 @@ offered_by caps = record {
   families = take 42 (opaque_families caps);
 }
 
--- what a record keeps
+-- what `Offers` keeps
 abbrev pub offered_in : Offers → Offered
 offered_in o = record {
   refresh = o.refresh;
@@ -87,7 +87,7 @@ offered_in o = record {
   families = families_in o.families;
 }
 
--- ---- how it is found: from nothing that is offered, capability by capability
+-- ---- how it is collected: from nothing offered, capability by capability
 
 abbrev pub no_offer : Offered
 no_offer = record { refresh = false; enhanced = false; long = false; hop6 = false; reads4 = false; sends4 = false; reads6 = false; sends6 = false; families = [] }

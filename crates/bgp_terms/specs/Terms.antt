@@ -1,4 +1,4 @@
--- What two speakers agree on for one direction of their session: a context, and what goes beyond it, by the OPENs of who reads and who sends.
+-- What two speakers agree on for one direction of their session: a context, and what goes beyond it, by the OPENs of the reader and the sender.
 use Rattle.std.specs.Prelude.{Bool, false, ◌&&◌, List, [], if◌then◌else◌}
 use Rattle.bgp_open.specs.declared.context.Context.{Context}
 use Rattle.bgp_terms.specs.declared.family.Family.{Family}
@@ -13,9 +13,9 @@ use Rattle.bgp_terms.specs.Families.{families_in, shared_families}
 use Rattle.bgp_terms.specs.Offers.{Offered, offered_by}
 use Rattle.bgp_open.specs.Peer.{Said, said_by}
 
--- what both do; ROUTE-REFRESH (RFC 2918; RFC 7313); whether messages to the reader, and NOTIFICATIONs to the sender, may pass 4096 octets (RFC 8654);
--- whether IPv4 and IPv6 unicast routes have path identifiers (RFC 7911); whether IPv4 routes may have an IPv6 next hop (RFC 8950); the families beyond
--- these two that both offer (RFC 4760); and whether both are in one confederation (RFC 5065)
+-- what both offer; ROUTE-REFRESH (RFC 2918; RFC 7313); whether messages to the reader, and NOTIFICATIONs to the sender, may pass 4096 octets (RFC
+-- 8654); whether IPv4 and IPv6 unicast routes have path identifiers (RFC 7911); whether IPv4 routes may have an IPv6 next hop (RFC 8950); the
+-- families beyond these two that both offer (RFC 4760); and whether both are in one confederation (RFC 5065)
 pub record Agreed : Type 0 where
   pub context : Context
   pub refresh : Refreshes
@@ -41,7 +41,7 @@ plain_terms ctx = record {
   member = member.None;
 }
 
--- what the fields say
+-- the values of the fields
 abbrev pub wide_terms : WideTerms → Agreed
 wide_terms w = record {
   context = w.context;
@@ -55,11 +55,11 @@ wide_terms w = record {
   member = w.member;
 }
 
--- a speaker that offers ROUTE-REFRESH reads it; where and when it begins and ends is said where both offer that (RFC 7313, section 3.2)
+-- a speaker that offers ROUTE-REFRESH accepts it; with the demarcation of a refresh where both offer that (RFC 7313, section 3.2)
 abbrev pub refreshes_of : Bool → Bool → Refreshes
 refreshes_of refresh enhanced = if refresh then (if enhanced then refreshes.Enhanced else refreshes.Plain) else refreshes.None
 
--- what the reader reads of the sender, by what both said and offered
+-- what the reader accepts from the sender, by the OPEN parameters and offers of both
 abbrev pub terms_with : Said → Offered → Said → Offered → Agreed
 terms_with reader reads sender sends = record {
   context = agreed_with reader sender;

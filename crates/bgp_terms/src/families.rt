@@ -1,10 +1,10 @@
-//! Families of routes, kept without memory.
+//! Families of routes, without an allocation.
 
 ghost use Rattle.std.specs.Prelude.{◌≡◌, ◌≤◌, [], ◌∷◌};
 
 use crate::family::Family;
 
-/// Families beyond IPv4 and IPv6 unicast: at most 42, as many as an OPEN of 255 octets of optional parameters can offer. It takes no memory.
+/// Families beyond IPv4 and IPv6 unicast: at most 42, the number that the 255 octets of optional parameters can offer. It allocates nothing.
 #[derive(Clone, Copy)]
 pub struct Families {
     list: [Family; 42],
@@ -32,14 +32,14 @@ impl Families {
         &self.list[..usize::from(self.len)]
     }
 
-    /// Whether a family is one of them.
+    /// Whether a family is among them.
     pub fn contains(&self, family: Family) -> bool
         ensures { result ≡ has_family (families_in self.now) family }
     {
         self.as_slice().iter().any(|other| family.afi == other.afi && family.safi == other.safi)
     }
 
-    /// The same with one more, where there is room.
+    /// The families and one more, where there is room.
     #[tactic(auto, using(crate::proofs::KeptFamilies::one_more, crate::proofs::KeptFamilies::no_more))]
     pub fn with(self, family: Family) -> Families
         ensures { families_in result ≡ also_family (families_in self) (family ∷ []) }

@@ -10,8 +10,8 @@ pub fn both_ends_find_the_same_terms()
     ensures { (a b : Open) → terms_of a b ≡ terms_sent b a }
 {}
 
-/// By the terms of two OPENs routes have path identifiers exactly where `bgp_open` finds so: those of IPv4 unicast, or those of IPv6 unicast where both
-/// offer it.
+/// By the terms of two OPENs, routes have path identifiers exactly where `bgp_open` finds so: those of IPv4 unicast, or those of IPv6 unicast where
+/// both offer it.
 pub fn agree_on_paths_finds_the_same_identifiers()
     ensures { (sender reader : Open) → agree_on_paths sender reader
         ≡ ((terms_of reader sender).paths4 || ((terms_of reader sender).context.ip6 && (terms_of reader sender).paths6)) }

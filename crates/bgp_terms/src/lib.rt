@@ -1,7 +1,6 @@
 //! What two speakers agree on beyond a context, for one direction of their session: ROUTE-REFRESH, long messages, path identifiers, next hops, families.
 #![tactic(auto)]
 
-pub mod capability;
 mod families;
 mod family;
 pub mod laws;

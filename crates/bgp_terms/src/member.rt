@@ -1,6 +1,6 @@
 //! Confederations.
 
-/// Whether both speakers are in one confederation (RFC 5065): no OPEN says so, and who owns the session sets it.
+/// Whether both speakers are in one confederation (RFC 5065): no OPEN says so, and the owner of the session sets it.
 #[derive(Clone, Copy, Debug, PartialEq, Eq)]
 pub enum Member {
     /// They aren't.

@@ -7,20 +7,20 @@ use crate::member::Member;
 use crate::refreshes::Refreshes;
 use bgp_open::Context;
 
-/// Answers what was negotiated for one direction of a session: a [`Context`] alone, or more ([`WideTerms`](crate::WideTerms)). Functions that take any
+/// What was negotiated for one direction of a session: a [`Context`] alone, or more ([`WideTerms`](crate::WideTerms)). Functions that take any
 /// `Terms` are compiled for each, so that a context alone costs no test.
 pub trait Terms: Copy {
     ghost use Rattle.bgp_terms.specs.Families.{has_family};
     ghost use Rattle.bgp_terms.specs.Terms.{Agreed};
 
-    /// All of it.
+    /// All that was negotiated.
     ghost agreed: { Self → Agreed };
 
-    /// What both speakers do.
+    /// What both speakers offer.
     fn context(&self) -> Context
         ensures { result ≡ (agreed self.now).context };
 
-    /// Which ROUTE-REFRESH the reader takes (RFC 2918; RFC 7313).
+    /// Which ROUTE-REFRESH the reader accepts (RFC 2918; RFC 7313).
     fn refresh(&self) -> Refreshes
         ensures { result ≡ (agreed self.now).refresh };
 

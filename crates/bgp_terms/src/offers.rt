@@ -4,32 +4,31 @@ ghost use Rattle.std.specs.Prelude.{◌≡◌, ◌||◌};
 ghost use Rattle.bgp_open.specs.Prelude.{capability_value, open_value, said_by, said_of};
 ghost use Rattle.bgp_terms.specs.Prelude.{also_family, families_in, has_hop6, is_hop6, is_hop_row, offered_by, offered_in, offers_hop6, offers_plain, one_or_none, opaque_of};
 
-use crate::capability;
 use crate::families::Families;
 use crate::family::Family;
 use crate::paths::{Role, offers_role};
-use bgp_numbers::{afi, safi};
+use bgp_numbers::{afi, capability, safi};
 use bgp_open::{CapabilityView, Open, OpenView, Peer};
 
-/// What an OPEN tells of the speaker that sent it, and what it offers beyond AS numbers of four octets and unicast routes of IPv4 and IPv6. A capability
-/// whose value has a wrong length, or a Send/Receive that the standard hasn't, isn't understood as a whole (RFC 5492, section 3). It takes no memory.
+/// The OPEN parameters of a speaker, and what it offers beyond AS numbers of four octets and unicast routes of IPv4 and IPv6. A capability
+/// whose value has a wrong length, or an undefined Send/Receive, isn't understood as a whole (RFC 5492, section 3). It allocates nothing.
 #[derive(Clone, Copy)]
 pub struct Offers {
-    /// What it tells of the speaker.
+    /// The speaker's OPEN parameters.
     pub peer: Peer,
     /// ROUTE-REFRESH (RFC 2918, section 2).
     pub refresh: bool,
-    /// ROUTE-REFRESH that says where it begins and ends (RFC 7313, section 3.1).
+    /// Enhanced ROUTE-REFRESH, which marks where a refresh begins and ends (RFC 7313, section 3.1).
     pub enhanced: bool,
     /// Messages of up to 65535 octets (RFC 8654, section 3).
     pub long: bool,
     /// IPv4 unicast routes with an IPv6 next hop (RFC 8950, section 4).
     pub hop6: bool,
-    /// It reads path identifiers of IPv4 unicast routes (RFC 7911, section 4).
+    /// It receives path identifiers of IPv4 unicast routes (RFC 7911, section 4).
     pub reads4: bool,
     /// It sends path identifiers of IPv4 unicast routes.
     pub sends4: bool,
-    /// It reads path identifiers of IPv6 unicast routes.
+    /// It receives path identifiers of IPv6 unicast routes.
     pub reads6: bool,
     /// It sends path identifiers of IPv6 unicast routes.
     pub sends6: bool,
@@ -37,7 +36,7 @@ pub struct Offers {
     pub families: Families,
 }
 
-/// Whether the capability is that of a code which has no value.
+/// Whether the capability has this code and, as defined, no value.
 fn offers_plain(wanted: u8, offered: CapabilityView<'_>) -> bool
     ensures { result ≡ offers_plain wanted (capability_value offered.entry) }
 {
@@ -93,7 +92,7 @@ fn offers_hop6(offered: CapabilityView<'_>) -> bool
     }
 }
 
-/// The family of the capability, unless a context has it.
+/// The family of the capability, unless it is IPv4 or IPv6 unicast.
 fn opaque_family(offered: CapabilityView<'_>) -> Option<Family>
     ensures { result ≡ opaque_of (capability_value offered.entry) }
 {
@@ -109,7 +108,7 @@ fn opaque_family(offered: CapabilityView<'_>) -> Option<Family>
     }
 }
 
-/// The families, and that of the capability, unless a context has it.
+/// The families, and that of the capability, unless it is IPv4 or IPv6 unicast.
 fn with_opaque(families: Families, offered: CapabilityView<'_>) -> Families
     ensures { families_in result ≡ also_family (families_in families) (one_or_none (opaque_of (capability_value offered.entry))) }
 {
@@ -119,7 +118,7 @@ fn with_opaque(families: Families, offered: CapabilityView<'_>) -> Families
     }
 }
 
-/// Whether one of them is so.
+/// Whether one of the two is set.
 fn either(first: bool, second: bool) -> bool
     ensures { result ≡ (first || second) }
 {
@@ -148,7 +147,7 @@ impl Offers {
         }
     }
 
-    /// It offers this too.
+    /// Adds what the capability offers.
     pub(crate) fn offer(&mut self, offered: CapabilityView<'_>)
         ensures kept { self.new.peer ≡ self.old.peer }
         ensures more { offered_in self.new ≡ offers_more (offered_in self.old) (capability_value offered.entry) }
@@ -174,7 +173,7 @@ impl Offers {
     }
 }
 
-/// What an OPEN tells of the speaker that sends it, and what it offers beyond a context.
+/// The OPEN parameters of an OPEN's sender, and what it offers beyond a context.
 pub fn offers_of(message: &Open) -> Offers
     ensures peer { said_of result.peer ≡ said_by message.now }
     ensures offered { offered_in result ≡ offered_by message.now.caps }
@@ -186,7 +185,7 @@ pub fn offers_of(message: &Open) -> Offers
     offers
 }
 
-/// What an OPEN tells of the speaker that sent it, and what it offers beyond a context.
+/// The OPEN parameters of an OPEN's sender, and what it offers beyond a context.
 pub fn offers_in(view: &OpenView<'_>) -> Offers
     ensures peer { said_of result.peer ≡ said_by (open_value view.now) }
     ensures offered { offered_in result ≡ offered_by (open_value view.now).caps }

@@ -1,4 +1,4 @@
-//! Path identifiers: what a capability says of its speaker (ADD-PATH; RFC 7911, section 4), as `bgp_open` reads it.
+//! Path identifiers: the roles that a capability gives its speaker (ADD-PATH; RFC 7911, section 4), as `bgp_open` reads it.
 
 ghost use Rattle.std.specs.Prelude.{◌≡◌};
 ghost use Rattle.bgp_open.specs.Prelude.{capability_value, is_path_row, is_role};
@@ -10,7 +10,7 @@ use bgp_open::CapabilityView;
 /// What a speaker does with path identifiers.
 #[derive(Clone, Copy)]
 pub(crate) enum Role {
-    /// It reads them.
+    /// It receives them.
     Reads,
     /// It sends them.
     Sends,
@@ -23,7 +23,7 @@ fn is_role(code: u8) -> bool
     code == 1 || code == 2 || code == 3
 }
 
-/// Whether a Send/Receive says that its speaker does this.
+/// Whether a Send/Receive gives its speaker this role.
 fn does(role: Role, code: u8) -> bool
     ensures { result ≡ does role code }
 {
@@ -47,7 +47,7 @@ fn is_path_row(value: &[u8]) -> bool
     rest.is_empty()
 }
 
-/// Whether a speaker does this with unicast routes of a family.
+/// Whether a row gives its speaker this role for unicast routes of a family.
 fn has_role(role: Role, family: u16, value: &[u8]) -> bool
     ensures { result ≡ has_role role family value.now }
 {
@@ -62,7 +62,7 @@ fn has_role(role: Role, family: u16, value: &[u8]) -> bool
     false
 }
 
-/// Whether a capability says so.
+/// Whether a capability gives its speaker this role.
 pub(crate) fn offers_role(role: Role, family: u16, offered: CapabilityView<'_>) -> bool
     ensures { result ≡ offers_role role family (capability_value offered.entry) }
 {

@@ -1,8 +1,7 @@
-//! What OPENs that were written down by hand offer, and what two of them agree on.
+//! What OPENs that were written by hand offer, and what two of them agree on.
 
 ghost use Rattle.std.specs.Prelude.{◌≤◌, length};
 
-use crate::capability;
 use crate::families::Families;
 use crate::family::Family;
 use crate::member::Member;
@@ -10,10 +9,11 @@ use crate::negotiated::Terms;
 use crate::offers::{Offers, offers_in, offers_of};
 use crate::refreshes::Refreshes;
 use crate::wide_terms::terms;
+use bgp_numbers::capability;
 use bgp_open::{Context, view_open};
 use std::test::*;
 
-/// Offers capabilities 2, 70, 6, 5 for 1/1 by IPv6, 69 to read IPv4, 1 for 1/1, and twice 1 for L2VPN EVPN.
+/// Offers capabilities 2, 70, 6, 5 for 1/1 by IPv6, 69 to receive IPv4, 1 for 1/1, and twice 1 for L2VPN EVPN.
 const READER: [u8; 50] = [
     4, 253, 232, 0, 90, 192, 0, 2, 1, 40, 2, 38, 2, 0, 70, 0, 6, 0, 5, 6, 0, 1, 0, 1, 0, 2, 69, 4,
     0, 1, 1, 1, 1, 4, 0, 1, 0, 1, 1, 4, 0, 25, 0, 70, 1, 4, 0, 25, 0, 70,
@@ -25,7 +25,7 @@ const SENDER: [u8; 40] = [
     0, 25, 0, 70, 1, 4, 0, 1, 0, 128, 6, 0,
 ];
 
-/// Offers 2, 6 and 70 with an octet each, 5 with an octet left, and 69 with a Send/Receive of 4 in its second family.
+/// Offers 2, 6 and 70 with an octet each, 5 with an octet left over, and 69 with a Send/Receive of 4 in its second family.
 const WRONG: [u8; 40] = [
     4, 253, 234, 0, 90, 192, 0, 2, 3, 30, 2, 28, 2, 1, 0, 6, 1, 0, 70, 1, 0, 5, 7, 0, 1, 0, 1, 0,
     2, 0, 69, 8, 0, 1, 1, 3, 0, 2, 1, 4,
@@ -43,7 +43,7 @@ fn offers(body: &[u8]) -> Option<Offers>
     }
 }
 
-/// Everything that terms answer, of one family.
+/// All answers of terms, for one family.
 fn answers<T: Terms>(terms: &T, family: Family) -> ([bool; 6], Refreshes, Member) {
     let flags = [
         terms.long(),

@@ -15,15 +15,15 @@ use bgp_open::{Context, agreed_context};
 /// What was negotiated for one direction of a session, from a sender to a reader. Every combination is allowed.
 #[derive(Clone, Copy)]
 pub struct WideTerms {
-    /// What both speakers do.
+    /// What both speakers offer.
     pub context: Context,
-    /// Which ROUTE-REFRESH the reader takes.
+    /// Which ROUTE-REFRESH the reader accepts.
     pub refresh: Refreshes,
     /// Messages may have up to 65535 octets: the reader offers it (RFC 8654, section 4).
     pub long: bool,
     /// A NOTIFICATION to the sender may: the sender offers it.
     pub long_back: bool,
-    /// IPv4 unicast routes have path identifiers: the sender sends and the reader reads them (RFC 7911, section 4).
+    /// IPv4 unicast routes have path identifiers: the sender sends and the reader receives them (RFC 7911, section 4).
     pub paths4: bool,
     /// IPv6 unicast routes have path identifiers.
     pub paths6: bool,
@@ -31,7 +31,7 @@ pub struct WideTerms {
     pub hop6: bool,
     /// The families beyond IPv4 and IPv6 unicast that both offer (RFC 4760, section 8).
     pub families: Families,
-    /// Whether both are in one confederation: set by who owns the session.
+    /// Whether both are in one confederation: set by the owner of the session.
     pub member: Member,
 }
 
@@ -86,7 +86,7 @@ impl Terms for WideTerms {
     }
 }
 
-/// Which ROUTE-REFRESH a reader takes that offers it, or that as the sender offers where it begins and ends.
+/// The ROUTE-REFRESH of a reader: `refresh` if it offers that, `enhanced` if both offer where it begins and ends.
 fn refreshes(refresh: bool, enhanced: bool) -> Refreshes
     ensures { result ≡ refreshes_of refresh enhanced }
 {
@@ -97,7 +97,7 @@ fn refreshes(refresh: bool, enhanced: bool) -> Refreshes
     }
 }
 
-/// What a reader reads of a sender, by what the OPENs of both offer, without memory. Neither is refused, and both ends find the same: one for what it
+/// What a reader accepts from a sender, by the OPENs of both, without memory. Neither is refused, and both ends find the same: one for what it
 /// reads, the other for what it sends.
 pub fn terms(reader: &Offers, sender: &Offers) -> WideTerms
     ensures { wide_terms result ≡ terms_with (said_of reader.now.peer) (offered_in reader.now) (said_of sender.now.peer) (offered_in sender.now) }

@@ -1,4 +1,4 @@
-//! The engines over readers and writers that give little at a time, or fail: what no clause and no row says of them.
+//! The engines over readers and writers that handle few octets at a time, or fail: what no contract and no row covers.
 
 mod bounds;
 mod failing;

@@ -1,5 +1,5 @@
-//! Tests of what no row can say: values that no reading gives, copies, calls that no row reaches, and what fails around the library: a
-//! host's connection, readers, writers and wires. What octets, scripts and events have to give stands in the rows of `bgp_check_rows`.
+//! Tests of what no row can express: values that no input is read as, copies, calls that no row reaches, and failures around the library: a
+//! host's connection, readers, writers and wires. The results for octets, scripts and events are in the rows of `bgp_check_rows`.
 #![tactic(auto)]
 
 #[cfg(test)]

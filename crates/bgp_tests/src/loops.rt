@@ -1,4 +1,4 @@
-//! Scripts that run over wires that fail, lie or record: what no clause and no row says of them.
+//! Scripts that run over wires that fail, change octets or record them: what no contract and no row covers.
 
 mod scripts;
 mod wires;

@@ -1,4 +1,4 @@
-//! Values that several tests speak of.
+//! Values that several tests use.
 
 mod copies;
 mod fakes;
@@ -19,7 +19,7 @@ use bgp_wire::List;
 use std::alloc::{AllocError, Global};
 use std::test::*;
 
-/// The body of an UPDATE of 10.0.0.0/8 by way of AS 65000 and 192.0.2.1, with AS numbers of four octets.
+/// The body of an UPDATE of 10.0.0.0/8 via AS 65000 and 192.0.2.1, with AS numbers of four octets.
 const PLAIN: &[u8] = &[
     0, 0, 0, 0x14, 0x40, 1, 1, 0, 0x40, 2, 6, 2, 1, 0, 0, 0xfd, 0xe8, 0x40, 3, 4, 192, 0, 2, 1, 8,
     10,

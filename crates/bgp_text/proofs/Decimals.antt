@@ -58,7 +58,7 @@ behind_thousands n lo hi =
 pub longer_by_three : (n : ℕ) → 1000 ≤ n → n < 2 ^ 64 → length (decimal n) ≡ length (decimal (n / 1000)) + 3
 longer_by_three n lo hi = ap length (behind_thousands n lo hi) ∙ length-append _ _
 
--- ---- how many of three digits are the number's
+-- ---- how many of the three digits belong to the number
 
 pub one_long : (n : ℕ) → n < 10 → length (decimal n) ≡ 1
 one_long n h = ap length (decimal_digit n h)
@@ -78,7 +78,7 @@ last_two n lo hi = let same : n / 10 % 10 ≡ n / 10 = omega arith in rw (of_two
 pub last_three : (n : ℕ) → 100 ≤ n → n < 1000 → drop 0 (three_digits n) ≡ decimal n
 last_three n lo hi = sym (of_three n lo hi)
 
--- three digits end at a place: the number's own begin there
+-- three digits end at an index: the number's own begin there
 pub own_digits : (n at k : ℕ) (octets rest : List ℕ) → k ≤ 3 → 3 ≤ at → drop (at - 3) octets ≡ three_digits n ++ rest
     → drop (3 - k) (three_digits n) ≡ decimal n → drop (at - k) octets ≡ decimal n ++ rest
 own_digits n at k octets rest few room written own =
@@ -86,7 +86,7 @@ own_digits n at k octets rest few room written own =
     ap (λ (i : ℕ). drop i octets) (sym place) ∙ sym (drop-drop (3 - k) (at - 3) octets) ∙ ap (drop (3 - k)) written
     ∙ drop-append-le (3 - k) (three_digits n) rest (omega arith) ∙ ap (λ (l : List ℕ). l ++ rest) own
 
--- ---- three octets that are written
+-- ---- three octets written
 
 pub three_written : (octets : List ℕ) (at a b c : ℕ) → at + 3 ≤ length octets
     → drop at (set (set (set octets (at + 2) c) (at + 1) b) at a) ≡ a ∷ b ∷ c ∷ drop (at + 3) octets

@@ -1,4 +1,4 @@
--- Characters of a text, and whether octets are one.
+-- The characters of a text, and whether octets are UTF-8.
 use Rattle.bgp_text.proofs.Prelude.{◌≡◌, ℕ, Bool, true, false, List, [], ◌∷◌, length, chars, arith, refl, IsUtf8, is_utf8, chars-nil, IsUtf8-from_is_utf8}
 use Rattle.bgp_text.proofs.Prelude.{is_utf8-from_IsUtf8}
 

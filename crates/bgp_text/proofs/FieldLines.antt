@@ -13,7 +13,7 @@ pub at_end : (message : List ℕ) (place : ℕ) (notes : List Note) → noted_li
 unfolding noted_lines
 at_end message place notes = refl
 
--- a field that a note is told at
+-- a field at which a note is reported
 pub at_note : (message : List ℕ) (place : ℕ) (first : Option Note) (later : List Note) (n : Note) (f : Field) (fields : List Field)
     → note_at first message f ≡ Some n
     → noted_lines message place (row_of first later) (f ∷ fields) ≡ noted_line message place n f ++ noted_lines message (note_place n) later fields
@@ -28,7 +28,7 @@ at_note message place (Some m) later n f fields e = at (is_at message m f) e
     at true same = cc
     at false same = absurd cc
 
--- the note that is told at a field is the next one
+-- the note reported at a field is the next one
 pub told_is_next : (message : List ℕ) (first : Option Note) (n : Note) (f : Field) → note_at first message f ≡ Some n → is_next first f ≡ is_of n f
 told_is_next message None n f e = absurd cc
 told_is_next message (Some m) n f e = at (is_at message m f) e
@@ -37,7 +37,7 @@ told_is_next message (Some m) n f e = at (is_at message m f) e
     at true same = cc
     at false same = absurd cc
 
--- a field that none is told at
+-- a field at which no note is reported
 pub at_none : (message : List ℕ) (place : ℕ) (first : Option Note) (later : List Note) (f : Field) (fields : List Field)
     → note_at first message f ≡ None
     → noted_lines message place (row_of first later) (f ∷ fields)
@@ -53,7 +53,7 @@ at_none message place (Some m) later f fields e = at (is_at message m f) e
     at true same = absurd cc
     at false same = refl
 
--- a line that is added, and those of the fields behind it
+-- a line that is appended, and those of the fields after it
 added : (old new line rest whole : List ℕ) → new ≡ old ++ line → whole ≡ line ++ rest → new ++ rest ≡ old ++ whole
 added old new line rest whole wrote split = ap (λ w. w ++ rest) wrote ∙ append_assoc old line rest ∙ ap (λ w. old ++ w) (sym split)
 
@@ -63,7 +63,7 @@ pub put_none : (message : List ℕ) (noting : Noting) (f : Field) (old new : Lis
 put_none message noting f old new none wrote fields =
     added old new _ _ _ wrote (at_none message noting.place noting.next (notes_left noting.later) f fields none)
 
--- the row of notes behind the first one
+-- the row of notes after the first one
 pub next_row : (later : NoteIter) (first : Option Note) (rest : NoteIter) → YieldsFirst notes_left later first rest → row_of first (notes_left rest) ≡ notes_left later
 next_row later None rest yields = cc
 next_row later (Some n) rest yields = cc

@@ -1,4 +1,4 @@
--- Rows of pieces of six, seven, eight and twenty octets: the text of the first one, and that of the rest.
+-- Pieces of six, seven, eight and twenty octets in a row: the text of the first one, and that of the rest.
 use Rattle.bgp_text.proofs.Prelude.{ap, append_assoc, sym, ◌∙◌, ◌≡◌, ◌<◌, ◌≤◌, ◌-◌, ◌+◌, ◌*◌, ℕ, List, [], ◌∷◌, ◌++◌, length, length-drop, take, drop, codes, refl, arith, take_all}
 use Rattle.std.specs.Prelude.{slice_index}
 use Rattle.std.specs.Int.{w16, from_be_bytes}
@@ -6,7 +6,7 @@ use Rattle.bgp_text.specs.AttributeValues.{extended6_row, extended6_text, extend
 use Rattle.bgp_text.specs.CapabilityValues.{further, family_text, hop_text, hops_text, stale_text}
 use Rattle.bgp_text.specs.FieldValues.{numbered}
 
--- two texts and then a third one, one after the other
+-- two texts and then a third one
 pub two : (old mid new first second rest whole : List ℕ) → mid ≡ old ++ first → new ≡ mid ++ second → whole ≡ first ++ (second ++ rest)
     → new ++ rest ≡ old ++ whole
 two old mid new first second rest whole wrote then all =
@@ -96,7 +96,7 @@ first_extended6 (t ∷ s ∷ a ∷ b ∷ c ∷ d ∷ e ∷ f ∷ g ∷ h ∷ i �
 first_extended6 (t ∷ s ∷ a ∷ b ∷ c ∷ d ∷ e ∷ f ∷ g ∷ h ∷ i ∷ j ∷ k ∷ l ∷ m ∷ n ∷ o ∷ p ∷ []) number enough same = absurd (omega arith)
 first_extended6 (t ∷ s ∷ a ∷ b ∷ c ∷ d ∷ e ∷ f ∷ g ∷ h ∷ i ∷ j ∷ k ∷ l ∷ m ∷ n ∷ o ∷ p ∷ y ∷ []) number enough same = absurd (omega arith)
 
--- what a piece leaves is shorter than what it was taken of
+-- what follows a piece is shorter than the whole
 pub fewer : (n : ℕ) (o : List ℕ) → 0 < n → n ≤ length o → length (take (length o - n) (drop n o)) < length o
 fewer n o some enough =
     let whole : take (length o - n) (drop n o) ≡ drop n o = take_all (length o - n) (drop n o) (omega (arith, length-drop n o)) in

@@ -1,4 +1,4 @@
--- The names of std, of the crates below and of this crate that its proofs cite, passed on from one place. Declares nothing.
+-- Re-exports the names of std, of the crates below and of this crate that its proofs cite. Declares nothing.
 pub use Rattle.bgp_fields.proofs.Prelude.{PrefixValue, run_of, PlacedTlv, TlvValue, judgement, tlvs_of, Mark, Parts, bad_network, carries_routes, cut_mark, first_reset, is_reachable, is_withdrawn, malformed, marks_behind, marks_of, notes_of, of_parts, parts_of, repeated, reset_by, reset_of, reset_of_run, routes_of, unless_reset, update_of, verdict_of, Note, fields_left}
 unfoldable pub use Rattle.bgp_fields.proofs.Prelude.{field_marks}
 pub use Rattle.bgp_wire.proofs.Std.{Bool, IsUtf8, List, None, OnOk, Option, Some, T, [], ap, append_assoc, arith, chars, codes, drop, drop-append-le, drop-drop, drop-set, eq-zero-or-pos, eqb, eqb→eq, false, flat_map, flat_map-append, flat_map-map, get_or, if◌then◌else◌, inl, inr, length, length-append, length-drop, length-set, map, nat_lt, option_or, refl, set, string_bytes, subst, suc, sym, take, take_all, true, zero, ℕ, ◌%◌, ◌&&◌, ◌*◌, ◌++◌, ◌+◌, ◌-◌, ◌/◌, ◌<◌, ◌==◌, ◌^◌, ◌∙◌, ◌∷◌, ◌≡◌, ◌≤◌}

@@ -17,7 +17,7 @@ use Rattle.bgp_update.specs.Parts.{has_nlri}
 use Rattle.bgp_msg.specs.declared.outcome.Outcome.{Outcome}
 use Rattle.bgp_msg.specs.Prelude.{of_verdict}
 
--- ---- how an attribute is judged
+-- ---- the judgement of an attribute
 
 abbrev OfJudged : Judged → Type 0
 OfJudged (Judged.Keep a) = Unit {0}
@@ -128,6 +128,6 @@ has_its_code (Verdict.Take u notes) n h is = absurd cc
 has_its_code (Verdict.Withdraw routes notes) n h is = absurd cc
 has_its_code (Verdict.Reset m) n h is = subst (λ (x : Notification). x.code ≡ UPDATE_MESSAGE) (let e : m ≡ n = cc in e) h
 
--- a reset by the body of an UPDATE is an UPDATE Message Error
+-- a reset for the body of an UPDATE is an UPDATE Message Error
 pub update_resets : (ctx : Context) (body : List ℕ) (n : Notification) → of_verdict (verdict_of ctx body) ≡ Outcome.Reset n → n.code ≡ UPDATE_MESSAGE
 update_resets ctx body n is = has_its_code (verdict_of ctx body) n (of_known ctx (parts_of body)) is

@@ -1,4 +1,4 @@
--- What is told of fields, one after another.
+-- What is reported at fields, one after another.
 use Rattle.std.specs.Prelude.{◌||◌}
 use Rattle.std.specs.Iterator.{YieldsFirst}
 use Rattle.std.proofs.lemmas.List.{append-nil}
@@ -32,7 +32,7 @@ pub nothing_left : (message : List ℕ) (noting : Noting) (fields : List Field) 
 nothing_left message noting fields none =
     ap (λ (next : Option Note). unplaced_notes message (row_of next (notes_left noting.later)) fields) none ∙ none_unplaced message fields
 
--- ---- a field that no note is told at
+-- ---- a field at which no note is reported
 
 none_told : (message : List ℕ) (place : ℕ) (first : Option Note) (later : List Note) (f : Field) (fields : List Field)
     → note_at first message f ≡ None
@@ -70,7 +70,7 @@ pub leave_none : (message : List ℕ) (noting : Noting) (f : Field) → note_at 
     → noting_left message noting (f ∷ fields) ≡ noting_left message noting fields
 leave_none message noting f none fields = none_left message noting.next (notes_left noting.later) f fields none
 
--- ---- a field that one is told at
+-- ---- a field at which one is reported
 
 note_told : (message : List ℕ) (place : ℕ) (first : Option Note) (later : List Note) (n : Note) (f : Field) (fields : List Field)
     → note_at first message f ≡ Some n

@@ -1,4 +1,4 @@
--- Digits in front of a short text.
+-- Digits written before a short text.
 use Rattle.bgp_text.proofs.Prelude.{◌≡◌, ℕ, false, ◌^◌, ◌/◌, ◌%◌, ◌<◌, ◌≤◌, List, ◌∷◌, ◌++◌, length, arith, subst, sym, ap, ◌∙◌, append_assoc, decimal}
 use Rattle.bgp_text.proofs.Prelude.{digit_glyph, IsAscii, hex_octet, ipv4_address_text, ipv6_address_text, groups_text, length-decimal-le, IsAscii-decimal}
 use Rattle.bgp_text.proofs.Prelude.{IsAscii-append}
@@ -6,7 +6,7 @@ use Rattle.std.specs.Prelude.{slice_index}
 use Rattle.std.proofs.lemmas.Bool.Decides.{nat_tests}
 use Rattle.std.proofs.lemmas.Str.Ascii.{IsAscii-cons}
 
--- how many digits a number of so many bits has at most
+-- the greatest number of digits of a number of this width
 pub digits_of_8 : (n : ℕ) → n < 2 ^ 8 → length (decimal n) ≤ 3
 digits_of_8 n small = length-decimal-le 3 n (omega arith) (omega arith) (omega arith)
 
@@ -38,11 +38,11 @@ pub hex_ascii : (high low : ℕ) (later text : List ℕ) → high < 256 → low 
 hex_ascii high low later text high_fits low_fits ascii is =
     subst IsAscii (sym is) (octet_ascii high (hex_octet low ++ later) high_fits (octet_ascii low later low_fits ascii))
 
--- text in front of a word whose front is this
+-- text before a word that begins with this
 pub in_front : (text front later word : List ℕ) → word ≡ front ++ later → text ++ word ≡ (text ++ front) ++ later
 in_front text front later word is = ap (λ (w : List ℕ). text ++ w) is ∙ sym (append_assoc text front later)
 
--- four texts with a mark between them, put in front of a word from the last to the first
+-- four texts with a mark between them, written before a word from the last to the first
 pub four_in_front : (a b c d later one one_mark two two_marks three three_marks four : List ℕ) (mark : ℕ)
     → one ≡ d ++ later → one_mark ≡ mark ∷ one → two ≡ c ++ one_mark → two_marks ≡ mark ∷ two
     → three ≡ b ++ two_marks → three_marks ≡ mark ∷ three → four ≡ a ++ three_marks

@@ -16,7 +16,7 @@ origin_name Origin.Incomplete = codes "INCOMPLETE"
 abbrev pub aggregator_line : List ℕ → Aggregator → List ℕ
 aggregator_line label a = label ++ (decimal a.asn.0 ++ (codes " " ++ (ipv4_address_text a.addr ++ 10 ∷ [])))
 
--- a letter for the Transitive bit and one for the Partial bit, where they are set, and a dash where neither is
+-- a letter for the Transitive bit and one for the Partial bit, where they are set, or a dash for neither
 abbrev pub flags_text : Bool → Bool → List ℕ
 flags_text false false = codes "-"
 flags_text true false = codes "t"
@@ -27,7 +27,7 @@ flags_text true true = codes "tp"
 abbrev pub opaque_line : Opaque → List ℕ
 opaque_line o = codes "  attr " ++ (decimal o.kind ++ (codes " " ++ (flags_text o.transitive o.partial ++ (codes " " ++ (info_text o.value ++ 10 ∷ [])))))
 
--- an attribute: a line, or some where it carries routes
+-- an attribute: one line, or several where it carries routes
 unfoldable pub attribute_lines : Attr → List ℕ
 attribute_lines (Attr.Origin o) = line_of (codes "  origin ") origin_name o
 attribute_lines (Attr.AsPath p) = path_line (codes "  as_path") p

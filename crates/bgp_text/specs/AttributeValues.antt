@@ -1,4 +1,4 @@
--- What the values of unrecognised attributes say: for reading alone, since no verdict depends on it.
+-- The values of unrecognised attributes in words: only printed, no verdict depends on them.
 use Rattle.std.specs.Prelude.{ℕ, ◌%◌, ◌==◌, ◌&&◌, nat_lt, List, [], ◌∷◌, ◌++◌, codes, if◌then◌else◌}
 use Rattle.std.specs.Int.{w16, w32, w64, from_be_bytes}
 use Rattle.bgp_text.specs.Below.{decimal, ipv4_address_text}
@@ -24,15 +24,15 @@ metric_text b = []
 
 -- ---- EXTENDED COMMUNITIES (RFC 4360, section 3; RFC 5668)
 
--- what the sub-types say that these types share
+-- the sub-types that these types share
 abbrev pub subtype_text : ℕ → List ℕ
 subtype_text s =
     if s == 2 then codes " route target " else (
     if s == 3 then codes " route origin " else
     codes " subtype " ++ (decimal s ++ codes " "))
 
--- whose the community is, and its number: an AS number of two octets and a number of four, an address and a number of two, or an AS number of four and
--- a number of two
+-- the owner of the community, and its number: an AS number of two octets and a number of four, an address and a number of two, or an AS number of
+-- four and a number of two
 abbrev pub owned_text : ℕ → List ℕ → List ℕ
 owned_text t (a ∷ b ∷ c ∷ d ∷ e ∷ f ∷ []) =
     if t == 0 then decimal (from_be_bytes w16 (a ∷ b ∷ [])) ++ (codes ":" ++ decimal (from_be_bytes w32 (c ∷ d ∷ e ∷ f ∷ []))) else (
@@ -49,7 +49,7 @@ color_text v = []
 abbrev pub types_text : ℕ → ℕ → List ℕ
 types_text t s = codes " type " ++ (decimal t ++ (codes " subtype " ++ decimal s))
 
--- a community of a type, a sub-type and six octets: of types 0 to 2, transitive or not, by its owner; Color; of another its numbers
+-- a community of a type, a sub-type and six octets: by its owner for types 0 to 2, transitive or not; Color; else by its numbers
 abbrev pub extended_text : ℕ → ℕ → List ℕ → List ℕ
 extended_text t s v =
     if nat_lt (t % 64) 3 then subtype_text s ++ owned_text (t % 64) v else (
@@ -62,8 +62,8 @@ extended_row b = []
 
 -- ---- IPv6 Address Specific Extended Communities (RFC 5701, section 2)
 
--- a community of a type, a sub-type, an address and a number: of type 0, transitive or not, whose it is, with the address in brackets (RFC 5952,
--- section 6), and its number; of another its numbers
+-- a community of a type, a sub-type, an address and a number: for type 0, transitive or not, its owner, with the address in brackets (RFC 5952,
+-- section 6), and its number; else by its numbers
 abbrev pub extended6_text : ℕ → ℕ → List ℕ → ℕ → List ℕ
 extended6_text t s owner number =
     if t % 64 == 0 then subtype_text s ++ (codes "[" ++ (ip6_text owner ++ (codes "]:" ++ decimal number))) else types_text t s

@@ -1,4 +1,4 @@
--- The names of std and of the crates below that definitions and contracts cite here, passed on from one place. Declares nothing.
+-- Re-exports the names of std and of the crates below that definitions and contracts cite here. Declares nothing.
 pub use Rattle.std.specs.Prelude.{Bool, IfOk, List, None, OnOk, Option, Some, [], codes, drop, false, if◌then◌else◌, length, map, nat_le, nat_lt, option_map, slice_index, take, true, ℕ, ◌%◌, ◌&&◌, ◌++◌, ◌+◌, ◌-◌, ◌/◌, ◌<◌, ◌==◌, ◌||◌, ◌∷◌, ◌≡◌, ◌≤◌}
 pub use Rattle.std.specs.Char.{encode_utf8, is_ascii, is_control}
 pub use Rattle.std.specs.Fmt.{decimal, digit_glyph}

@@ -1,4 +1,4 @@
--- What the values of capabilities say on which no verdict depends: for reading alone.
+-- The values of capabilities on which no verdict depends, in words: only printed.
 use Rattle.std.specs.Prelude.{ℕ, ◌+◌, ◌*◌, ◌%◌, ◌==◌, nat_le, List, [], ◌∷◌, ◌++◌, take, drop, codes, if◌then◌else◌}
 use Rattle.std.specs.Int.{w16, from_be_bytes}
 use Rattle.bgp_names.specs.Names.{named}
@@ -9,7 +9,7 @@ use Rattle.bgp_text.specs.Shutdown.{where_utf8}
 
 -- ---- families
 
--- a name, else the number
+-- a name, or the number if it has none
 abbrev pub name_or_number : List ℕ → ℕ → List ℕ
 name_or_number [] n = decimal n
 name_or_number (c ∷ name) n = c ∷ name
@@ -18,7 +18,7 @@ name_or_number (c ∷ name) n = c ∷ name
 abbrev pub family_text : ℕ → ℕ → List ℕ
 family_text afi safi = codes " " ++ (name_or_number (afi_name afi) afi ++ (codes " " ++ name_or_number (safi_name safi) safi))
 
--- a comma, where more follows
+-- a comma, if more follows
 abbrev pub further : List ℕ → List ℕ
 further [] = []
 further (b ∷ rest) = codes ","
@@ -33,7 +33,7 @@ role_name n = named (
     (3, codes "Customer") ∷ (
     (4, codes "Peer") ∷ []))))) n
 
--- a role, where it is one octet
+-- a role, if it is one octet
 abbrev pub role_text : List ℕ → List ℕ
 role_text (n ∷ []) = numbered (role_name n) n
 role_text b = []
@@ -51,7 +51,7 @@ hops_text b = []
 
 -- ---- Graceful Restart (RFC 4724, section 3)
 
--- the forwarding state was kept: the first bit of the flags of a family
+-- whether the forwarding state was preserved: the first bit of the flags of a family
 abbrev pub kept_text : ℕ → List ℕ
 kept_text flags = if nat_le 128 flags then codes " forwarding state kept" else []
 
@@ -64,7 +64,7 @@ abbrev pub restart_text : List ℕ → List ℕ
 restart_text (a ∷ b ∷ families) = numbered (codes "seconds") (a % 16 * 256 + b) ++ restarts_text families
 restart_text b = []
 
--- ---- Long-Lived Graceful Restart: families, and how long their stale routes stay (RFC 9494, section 3.1)
+-- ---- Long-Lived Graceful Restart: families, and how long their stale routes are kept (RFC 9494, section 3.1)
 
 abbrev pub stale_text : List ℕ → List ℕ
 stale_text (a ∷ b ∷ s ∷ f ∷ t ∷ u ∷ v ∷ rest) =
@@ -84,9 +84,9 @@ paths_text (a ∷ b ∷ s ∷ m ∷ rest) =
     family_text (from_be_bytes w16 (a ∷ b ∷ [])) s ++ (codes " " ++ (name_or_number (path_mode m) m ++ (further rest ++ paths_text rest)))
 paths_text b = []
 
--- ---- FQDN: the name of the host, and its domain, each after an octet that counts its octets (draft-walton-bgp-hostname-capability, section 3)
+-- ---- FQDN: the hostname, and its domain name, each after its length in one octet (draft-walton-bgp-hostname-capability, section 3)
 
--- a name, where it is UTF-8
+-- a name, if it is UTF-8
 abbrev pub host_text : List ℕ → List ℕ
 host_text b = said_text (where_utf8 b)
 

@@ -3,14 +3,14 @@ use Rattle.std.specs.Prelude.{ℕ, ◌/◌, ◌%◌, List, [], ◌∷◌, ◌++�
 use Rattle.bgp_names.specs.Names.{named}
 use Rattle.bgp_text.specs.Below.{flat_map, decimal}
 
--- a community behind a space: its upper 16 bits, a colon, and its lower 16 bits
+-- a community after a space: its upper 16 bits, a colon, and its lower 16 bits
 abbrev pub community_text : ℕ → List ℕ
 community_text n = codes " " ++ (decimal (n / 65536) ++ (codes ":" ++ decimal (n % 65536)))
 
 abbrev pub communities_line : List ℕ → List ℕ
 communities_line values = codes "  communities" ++ (flat_map community_text values ++ 10 ∷ [])
 
--- a large community behind a space: its three numbers, with colons between them
+-- a large community after a space: its three numbers, with colons between them
 abbrev pub large_text : List ℕ → List ℕ
 large_text c = codes " " ++ (decimal (slice_index c 0) ++ (codes ":" ++ (decimal (slice_index c 1) ++ (codes ":" ++ decimal (slice_index c 2)))))
 

@@ -2,7 +2,7 @@
 use Rattle.std.specs.Prelude.{List, ℕ, [], ◌∷◌, ◌++◌, codes}
 use Rattle.bgp_text.specs.Below.{decimal, End}
 
--- a message was answered by a reset, a header has a fault, or octets wait for the rest of their message
+-- the session was reset by a message or by a header's fault, or the stream ended, with n octets of an incomplete message
 abbrev pub end_line : End → List ℕ
 end_line End.Reset = codes "end reset" ++ 10 ∷ []
 end_line End.Head = codes "end head" ++ 10 ∷ []

@@ -1,8 +1,8 @@
--- What a peer wrote, as a string that a terminal and a reader of JSON can be shown.
+-- Text from a peer, as a string that is safe for a terminal and for a reader of JSON.
 use Rattle.std.specs.Prelude.{ℕ, ◌==◌, List, ◌++◌, codes, if◌then◌else◌}
 use Rattle.bgp_text.specs.Below.{flat_map, chars, encode_utf8, is_control, hex_octet}
 
--- a character as RFC 8259, section 7, has it: a quotation mark and a backslash behind a backslash, a control character by its number
+-- a character as RFC 8259, section 7, has it: a quotation mark and a backslash after a backslash, a control character by its number
 abbrev pub escaped : ℕ → List ℕ
 escaped c =
     if c == 34 then codes "\\\"" else (

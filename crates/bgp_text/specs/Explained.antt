@@ -1,4 +1,4 @@
--- What `explain` prints of a message: what `show` prints, and its fields.
+-- What `explain` prints for a message: what `show` prints, and its fields.
 use Rattle.std.specs.Prelude.{ℕ, nat_lt, List, [], ◌∷◌, ◌++◌, length, take, codes, Option, if◌then◌else◌}
 use Rattle.bgp_text.specs.Below.{flat_map, decimal, Context, Notification, Outcome, Fault, fields_of}
 use Rattle.bgp_text.specs.FieldLines.{noted_lines, faulty_line}
@@ -9,28 +9,28 @@ use Rattle.bgp_text.specs.Outcome.{outcome_lines, reset_name}
 abbrev pub shortened : Notification → Notification
 shortened n = record { code = n.code; subcode = n.subcode; info = record { items = take 64 n.info.items } }
 
--- how many octets there are, where some are left out
+-- the number of octets, where some are left out
 abbrev pub count_text : List ℕ → List ℕ
 count_text b = if nat_lt 64 (length b) then codes "... of " ++ (decimal (length b) ++ codes " octets") else []
 
--- the line that `show` prints of a reset, with at most 64 octets of the data
+-- the line that `show` prints for a reset, with at most 64 octets of the data
 abbrev pub short_reset_line : ℕ → ℕ → Notification → List ℕ
 short_reset_line place len n =
     decimal place ++ (codes " " ++ (decimal len ++ (codes " " ++ (reset_name n.code ++ (codes " reset " ++ (notification_text (shortened n)
     ++ (count_text n.info.items ++ 10 ∷ [])))))))
 
--- the lines that `show` prints, but for data that is left out of a reset
+-- the lines that `show` prints, except for data of a reset that is left out
 unfoldable pub heading_lines : ℕ → ℕ → Outcome → List ℕ
 heading_lines place len (Outcome.Took m notes) = outcome_lines place len (Outcome.Took m notes)
 heading_lines place len (Outcome.Withdraw routes notes) = outcome_lines place len (Outcome.Withdraw routes notes)
 heading_lines place len (Outcome.Reset n) = short_reset_line place len n
 
--- the fields of a message in a context: notes stand where their attributes begin, and the answer to a message where the octets at fault begin
+-- the fields of a message in a context: notes are printed where their attributes begin, and a NOTIFICATION where the octets at fault begin
 unfoldable pub explained_fields : Context → List ℕ → Option Fault → Outcome → List ℕ
 explained_fields ctx message fault (Outcome.Took m notes) = noted_lines message 0 notes (fields_of ctx message)
 explained_fields ctx message fault (Outcome.Withdraw routes notes) = noted_lines message 0 notes (fields_of ctx message)
 explained_fields ctx message fault (Outcome.Reset n) = flat_map (faulty_line message fault n) (fields_of ctx message)
 
--- what `show` prints at an offset in the stream of a message of so many octets, 0 for a header's fault, and the fields of its octets
+-- what `show` prints for a message at an offset in the stream and of this length, 0 for a header's fault, and the fields of its octets
 abbrev pub explained_lines : Context → ℕ → ℕ → List ℕ → Option Fault → Outcome → List ℕ
 explained_lines ctx place len octets fault o = heading_lines place len o ++ explained_fields ctx octets fault o

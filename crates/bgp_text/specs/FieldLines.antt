@@ -8,15 +8,15 @@ use Rattle.bgp_text.specs.NoteLines.{why_name}
 use Rattle.bgp_text.specs.Reasons.{cause_wanted, is_at, is_in, is_of, note_place, note_wanted}
 use Rattle.bgp_text.specs.Sections.{cause_section, note_section}
 
--- the beginning of a line: a mark, where a fault lies there
+-- the beginning of a line: marked where a fault is
 abbrev pub margin : Bool → List ℕ
 margin marked = if marked then codes "  > " else codes "    "
 
--- what a field says: by its kind, else by the attribute or the capability that it belongs to
+-- the value of a field: by its kind, else by the attribute or the capability that it belongs to
 abbrev pub field_said : List ℕ → Field → List ℕ
 field_said message f = value_text message f.kind (octets_in message f) ++ detail_text (code_of f.group) f.kind (octets_in message f)
 
--- a field: its offset in the message, its octets, its name, and what it says
+-- a field: its offset in the message, its octets, its name, and its value
 unfoldable pub field_text : Bool → List ℕ → Field → List ℕ
 field_text marked message f =
     margin marked ++ (decimal f.at ++ (codes " " ++ (flat_map hex_octet (octets_in message f) ++ (codes " " ++ (field_name f.kind
@@ -37,7 +37,7 @@ type_text kind (c ∷ name) = c ∷ name
 abbrev pub wanted_text : List ℕ → List ℕ → List ℕ
 wanted_text wanted section = codes ": expected " ++ (wanted ++ (codes " (" ++ (section ++ codes ")")))
 
--- why an attribute is discarded, and by which rule
+-- why an attribute isn't kept, and by which rule
 abbrev pub note_reason : Note → List ℕ
 note_reason n =
     type_text n.kind (attribute_name n.kind) ++ (codes " " ++ (why_name n.why ++ wanted_text (note_wanted n.kind n.why) (note_section n.kind n.why)))
@@ -50,16 +50,16 @@ reason_place at = codes "  ! " ++ (decimal at ++ codes " ")
 abbrev pub reason_line : ℕ → List ℕ → List ℕ
 reason_line at reason = reason_place at ++ (reason ++ 10 ∷ [])
 
--- a note on an attribute that isn't there
+-- a note on an attribute that is missing
 abbrev pub unplaced_line : Note → List ℕ
 unplaced_line n = codes "  ! " ++ (note_reason n ++ 10 ∷ [])
 
--- a field that a note is told at
+-- a field at which a note is reported
 abbrev pub noted_line : List ℕ → ℕ → Note → Field → List ℕ
 noted_line message place n f = reason_line f.at (note_reason n) ++ field_line (is_of n f || is_in place f.group) message f
 
--- The lines of fields, with each note above the field where it is told. Those of its attribute are marked, and those of the attribute at `place`, of which
--- a note was told; notes that are left have no field.
+-- The lines of fields, with each note above the field where it is reported. The fields of its attribute are marked, and those of the attribute at
+-- `place`, whose note was reported; notes that are left have no field.
 unfoldable pub noted_lines : List ℕ → ℕ → List Note → List Field → List ℕ
 noted_lines message place notes [] = flat_map unplaced_line notes
 noted_lines message place [] (f ∷ fields) = field_line (is_in place f.group) message f ++ noted_lines message place [] fields
@@ -74,7 +74,7 @@ noted_lines message place (n ∷ notes) (f ∷ fields) =
 abbrev pub answer_text : ℕ → ℕ → List ℕ
 answer_text code subcode = decimal code ++ (codes "/" ++ (decimal subcode ++ spaced (subcode_name code subcode)))
 
--- the NOTIFICATION that answers, what was expected, and by which rule
+-- the NOTIFICATION, what was expected, and by which rule
 abbrev pub reset_reason : ℕ → ℕ → Cause → List ℕ
 reset_reason code subcode cause = answer_text code subcode ++ wanted_text (cause_wanted cause subcode) (cause_section cause)
 
@@ -86,7 +86,7 @@ overlaps span f = nat_lt f.at (span.at + span.len) && nat_lt span.at (f.at + f.l
 abbrev pub holds : Span → Field → Bool
 holds span f = nat_le f.at span.at && nat_lt span.at (f.at + f.len)
 
--- the lines of a field of a message that is answered by a NOTIFICATION: why, above the field where the octets at fault begin, and the marks of these
+-- the lines of a field of a message that causes a NOTIFICATION: the reason, above the field where the octets at fault begin, and marks on these
 abbrev pub faulty_line : List ℕ → Option Fault → Notification → Field → List ℕ
 faulty_line message None n f = field_line false message f
 faulty_line message (Some fault) n f =

@@ -1,4 +1,4 @@
--- What a field says, behind its name.
+-- The value of a field, printed after its name.
 use Rattle.std.specs.Prelude.{ℕ, Bool, true, false, ◌==◌, List, [], ◌∷◌, ◌++◌, length, take, drop, codes, slice_index, if◌then◌else◌}
 use Rattle.bgp_text.specs.Below.{flat_map, decimal}
 use Rattle.bgp_text.specs.Below.{run_of, PrefixValue, ipv4_address_text, ipv4_text, is_optional, is_transitive, is_partial, is_extended}
@@ -11,19 +11,19 @@ use Rattle.bgp_text.specs.Escape.{escaped_string}
 use Rattle.bgp_text.specs.JsonAddress.{ip6_text}
 use Rattle.bgp_text.specs.Shutdown.{shutdown_text}
 
--- the number that one octet, two or four spell, the first one the highest
+-- the number in one octet, two or four, highest first
 abbrev pub number_in : List ℕ → ℕ
 number_in (a ∷ []) = a
 number_in (a ∷ b ∷ []) = from_be_bytes w16 (a ∷ b ∷ [])
 number_in (a ∷ b ∷ c ∷ d ∷ []) = from_be_bytes w32 (a ∷ b ∷ c ∷ d ∷ [])
 number_in _ = 0
 
--- a text behind a space, where there is one
+-- a text after a space, if there is one
 abbrev pub spaced : List ℕ → List ℕ
 spaced [] = []
 spaced (c ∷ characters) = codes " " ++ c ∷ characters
 
--- a number, and its name, where it has one
+-- a number, and its name if it has one
 abbrev pub numbered : List ℕ → ℕ → List ℕ
 numbered name n = codes " " ++ (decimal n ++ spaced name)
 
@@ -57,7 +57,7 @@ is_number FieldKind.NextHopLength = true
 is_number FieldKind.ErrorCode = true
 is_number _ = false
 
--- what the registries call the octet of a field
+-- the name in the registries for a field of one octet
 abbrev pub octet_name : FieldKind → ℕ → List ℕ
 octet_name FieldKind.MessageType n = message_name n
 octet_name FieldKind.ParameterType n = parameter_name n
@@ -69,12 +69,12 @@ octet_name FieldKind.SegmentType n = segment_name n
 octet_name FieldKind.ErrorCode n = error_name n
 octet_name _ n = []
 
--- what they call the two octets of one
+-- the name for one of two octets
 abbrev pub pair_name : FieldKind → ℕ → List ℕ
 pair_name FieldKind.Afi n = afi_name n
 pair_name _ n = []
 
--- what they call the number in a field
+-- the name for the number in a field
 abbrev pub number_name : FieldKind → List ℕ → List ℕ
 number_name kind (a ∷ []) = octet_name kind a
 number_name kind (a ∷ b ∷ []) = pair_name kind (from_be_bytes w16 (a ∷ b ∷ []))
@@ -105,7 +105,7 @@ flags_text flags =
     (if is_optional flags then codes " optional" else codes " well-known") ++ ((if is_transitive flags then codes " transitive" else codes " non-transitive")
     ++ ((if is_partial flags then codes " partial" else []) ++ (if is_extended flags then codes " extended" else [])))
 
--- a community, and its name where it is well-known
+-- a community, and its name if it is well-known
 abbrev pub named_community : ℕ → List ℕ
 named_community n = community_text n ++ spaced (community_name n)
 
@@ -113,7 +113,7 @@ named_community n = community_text n ++ spaced (community_name n)
 abbrev pub large_value : List ℕ → List ℕ
 large_value b = large_text (number_in (take 4 b) ∷ number_in (take 4 (drop 4 b)) ∷ number_in (drop 8 b) ∷ [])
 
--- ---- NOTIFICATIONs: the code and the subcode lie behind the header
+-- ---- NOTIFICATIONs: the code and the subcode follow the header
 
 abbrev pub code_in : List ℕ → ℕ
 code_in message = slice_index message 19
@@ -121,14 +121,14 @@ code_in message = slice_index message 19
 abbrev pub subcode_in : List ℕ → ℕ
 subcode_in message = slice_index message 20
 
--- what was said, as a string
+-- text from a peer, as a string
 abbrev pub said_text : List ℕ → List ℕ
 said_text [] = []
 said_text (c ∷ characters) = codes " " ++ escaped_string (c ∷ characters)
 
 -- ---- all
 
--- what a field says that isn't a number alone, or is one that means nothing without the octets before it
+-- the value of a field that isn't only a number, or whose meaning depends on the octets before it
 abbrev pub other_text : List ℕ → FieldKind → List ℕ → List ℕ
 other_text message FieldKind.Identifier b = address_text b
 other_text message FieldKind.Address b = address_text b
@@ -147,7 +147,7 @@ other_text message FieldKind.ErrorSubcode b = numbered (subcode_name (code_in me
 other_text message FieldKind.Data b = said_text (shutdown_text (code_in message) (subcode_in message) b)
 other_text message _ b = []
 
--- what the octets of a field say, in a message
+-- the value of a field's octets, in a message
 unfoldable pub value_text : List ℕ → FieldKind → List ℕ → List ℕ
 value_text message kind b =
     if is_number kind then numbered (number_name kind b) (number_in b) else other_text message kind b

@@ -26,12 +26,12 @@ member name json value = named name ++ json value
 abbrev pub behind_comma : {A : Type 0} → (A → List ℕ) → A → List ℕ
 behind_comma json value = codes "," ++ json value
 
--- a further member that is a string, where there is something in it: of characters that need no escape
+-- a further member that is a string, unless it is empty: of characters that need no escape
 unfoldable pub where_named : List ℕ → List ℕ → List ℕ
 where_named name [] = []
 where_named name (c ∷ characters) = member name quoted (c ∷ characters)
 
--- the same of text that a peer wrote
+-- the same for text from a peer
 unfoldable pub where_said : List ℕ → List ℕ → List ℕ
 where_said name [] = []
 where_said name (c ∷ characters) = member name escaped_string (c ∷ characters)

@@ -22,17 +22,17 @@ community_json n = quoted (decimal (n / 65536) ++ (codes ":" ++ decimal (n % 655
 unfoldable pub large_json : List ℕ → List ℕ
 large_json c = quoted (decimal (slice_index c 0) ++ (codes ":" ++ (decimal (slice_index c 1) ++ (codes ":" ++ decimal (slice_index c 2)))))
 
--- an attribute that isn't recognised: its type, its flags, its value, and its name, where it has one
+-- an attribute that isn't recognised: its type, its flags, its value, and its name if it has one
 unfoldable pub opaque_json : Opaque → List ℕ
 opaque_json o =
     codes "{\"type\":" ++ (decimal o.kind ++ (member (codes "transitive") boolean o.transitive ++ (member (codes "partial") boolean o.partial
     ++ (member (codes "value") octets_json o.value ++ (where_named (codes "name") (attribute_name o.kind) ++ codes "}")))))
 
--- all attributes of types that aren't recognised: the list is always there
+-- all attributes of types that aren't recognised: the list is always printed
 abbrev pub others_member : List Opaque → List ℕ
 others_member others = member (codes "others") (listed opaque_json) others
 
--- an attribute as a member of an object; one that isn't recognised as a list by itself
+-- an attribute as a member of an object; one that isn't recognised as a list of its own
 unfoldable pub attribute_member : Attr → List ℕ
 attribute_member (Attr.Origin o) = member (codes "origin") origin_json o
 attribute_member (Attr.AsPath p) = member (codes "as_path") path_json p

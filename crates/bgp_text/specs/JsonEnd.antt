@@ -7,7 +7,7 @@ use Rattle.bgp_text.specs.Json.{quoted, member, line_end}
 unfoldable pub ended : List ℕ → List ℕ
 ended word = codes "{\"kind\":" ++ (quoted (codes "END") ++ member (codes "end") quoted word)
 
--- a message was answered by a reset, a header has a fault, or so many octets of an incomplete message were read
+-- the session was reset by a message or by a header's fault, or the stream ended, with n octets of an incomplete message
 abbrev pub end_json : End → List ℕ
 end_json End.Reset = ended (codes "reset") ++ line_end
 end_json End.Head = ended (codes "head") ++ line_end

@@ -11,7 +11,7 @@ use Rattle.bgp_text.specs.Lines.{where_there}
 unfoldable pub family_json : ℕ → List ℕ
 family_json afi = codes "{\"afi\":" ++ (decimal afi ++ member (codes "safi") decimal UNICAST)
 
--- the next hop, the link-local one where there is one, and the routes
+-- the next hop, the link-local one if it is present, and the routes
 unfoldable pub reach_json : MpReach → List ℕ
 reach_json (MpReach.Ip4 hop routes) =
     family_json IPV4 ++ (member (codes "next_hop") ip4_json hop ++ (member (codes "nlri") (listed prefix4_json) routes ++ codes "}"))

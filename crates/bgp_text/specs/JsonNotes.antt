@@ -7,7 +7,7 @@ use Rattle.bgp_text.specs.NoteLines.{why_name}
 abbrev pub why_json : Why → List ℕ
 why_json w = quoted (why_name w)
 
--- the offset of an attribute in the body, its type, its name, and why it is discarded
+-- the offset of an attribute in the body, its type, its name, and why it isn't kept
 unfoldable pub note_json : Note → List ℕ
 note_json n =
     codes "{\"at\":" ++ (decimal n.at ++ (member (codes "type") decimal n.kind ++ (where_named (codes "name") (attribute_name n.kind)

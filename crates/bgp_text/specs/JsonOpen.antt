@@ -9,7 +9,7 @@ use Rattle.bgp_text.specs.JsonAddress.{ip4_json}
 unfoldable pub code_json : ℕ → List ℕ
 code_json code = codes "{\"code\":" ++ decimal code
 
--- the end of an object: the name of the capability, where it has one
+-- the end of an object: the name of the capability, if it has one
 abbrev pub name_end : ℕ → List ℕ
 name_end code = where_named (codes "name") (capability_name code) ++ codes "}"
 
@@ -20,7 +20,7 @@ capability_json (Multi family subsequent) =
 capability_json (As4 number) = code_json FOUR_OCTET_AS ++ (member (codes "as") decimal number ++ name_end FOUR_OCTET_AS)
 capability_json (Other code value) = code_json code ++ (member (codes "value") octets_json value ++ name_end code)
 
--- My Autonomous System as it stands, the hold time, the identifier and the capabilities
+-- My Autonomous System as in the OPEN, the hold time, the identifier and the capabilities
 abbrev pub open_members : Open → List ℕ
 open_members o =
     member (codes "as") decimal o.as_field ++ (member (codes "hold") decimal o.hold ++ (member (codes "id") ip4_json o.id

@@ -6,7 +6,7 @@ use Rattle.bgp_text.specs.JsonAddress.{prefix4_json, prefix6_json}
 use Rattle.bgp_text.specs.JsonAttributes.{attribute_member, others_member}
 use Rattle.bgp_text.specs.Members.{Shown, printed}
 
--- how each member of an UPDATE is printed: the lists of routes, and of what isn't recognised, are always there
+-- how each member of an UPDATE is printed: the lists of routes, and of what isn't recognised, are always printed
 abbrev pub in_json : Shown
 in_json = record {
   withdrawn = member (codes "withdrawn") (listed prefix4_json);

@@ -5,7 +5,7 @@ use Rattle.std.specs.Prelude.{ℕ, List, [], ◌∷◌, ◌++◌, Option, None, 
 abbrev pub line_of : {A : Type 0} → List ℕ → (A → List ℕ) → A → List ℕ
 line_of label shown value = label ++ (shown value ++ 10 ∷ [])
 
--- the lines of a value, where there is one
+-- the lines of an optional value
 abbrev pub where_there : {A : Type 0} → (A → List ℕ) → Option A → List ℕ
 where_there lines None = []
 where_there lines (Some value) = lines value

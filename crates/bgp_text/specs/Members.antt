@@ -17,7 +17,7 @@ printed_types =
     MP_REACH_NLRI ∷ MP_UNREACH_NLRI ∷ ORIGIN ∷ AS_PATH ∷ NEXT_HOP ∷ MULTI_EXIT_DISC ∷ LOCAL_PREF ∷ ATOMIC_AGGREGATE ∷ AGGREGATOR ∷
     COMMUNITIES ∷ LARGE_COMMUNITY ∷ AS4_PATH ∷ AS4_AGGREGATOR ∷ []
 
--- the attributes of these types, each where it is there
+-- the attributes of these types, if present
 unfoldable pub printed_attributes : (Attr → List ℕ) → Attrs → List ℕ
 printed_attributes attribute a = flat_map (λ kind. flat_map attribute (slot a kind)) printed_types
 

@@ -7,7 +7,7 @@ use Rattle.bgp_text.specs.Lines.{line_of}
 abbrev pub ip4_next_line : List ℕ → List ℕ
 ip4_next_line next_hop = codes "  mp_reach ip4 next " ++ (ipv4_address_text next_hop ++ 10 ∷ [])
 
--- the global address, and the link-local one where there is one
+-- the global address, and the link-local one if it is present
 abbrev pub ip6_next_line : List ℕ → Option (List ℕ) → List ℕ
 ip6_next_line next_hop None = codes "  mp_reach ip6 next " ++ (ipv6_address_text next_hop ++ 10 ∷ [])
 ip6_next_line next_hop (Some link) =

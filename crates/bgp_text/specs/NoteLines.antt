@@ -19,6 +19,6 @@ why_name Why.Cut = codes "Cut"
 why_name Why.Missing = codes "Missing"
 why_name Why.AsZero = codes "AsZero"
 
--- the place of an attribute in the body, its type, and why it is discarded
+-- the offset of an attribute in the body, its type, and why it isn't kept
 abbrev pub note_line : Note → List ℕ
 note_line n = codes "  note " ++ (decimal n.at ++ (codes " " ++ (decimal n.kind ++ (codes " " ++ (why_name n.why ++ 10 ∷ [])))))

@@ -3,7 +3,7 @@ use Rattle.std.specs.Prelude.{ℕ, List, [], ◌∷◌, ◌++◌, codes}
 use Rattle.bgp_text.specs.Below.{flat_map, decimal, ipv4_address_text, Capability, Multi, As4, Other, Open}
 use Rattle.bgp_text.specs.Info.{info_text}
 
--- My Autonomous System as it stands, the hold time, and the identifier
+-- My Autonomous System as in the OPEN, the hold time, and the identifier
 abbrev pub number_lines : ℕ → ℕ → List ℕ → List ℕ
 number_lines as_field hold id =
     codes "  as " ++ (decimal as_field ++ 10 ∷ (codes "  hold " ++ (decimal hold ++ 10 ∷ (codes "  id " ++ (ipv4_address_text id ++ 10 ∷ [])))))

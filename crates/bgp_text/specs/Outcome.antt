@@ -7,21 +7,21 @@ use Rattle.bgp_text.specs.NoteLines.{note_line}
 use Rattle.bgp_text.specs.OpenLines.{open_lines}
 use Rattle.bgp_text.specs.UpdateLines.{update_lines, routes_lines}
 
--- the place of a message in the stream, its octets in number, and what it is
+-- the offset of a message in the stream, its length, and what it is
 abbrev pub head_line : ℕ → ℕ → List ℕ → List ℕ
 head_line place len name = decimal place ++ (codes " " ++ (decimal len ++ (codes " " ++ (name ++ 10 ∷ []))))
 
 abbrev pub notification_line : ℕ → ℕ → Notification → List ℕ
 notification_line place len n = decimal place ++ (codes " " ++ (decimal len ++ (codes " NOTIFICATION " ++ (notification_text n ++ 10 ∷ []))))
 
--- a message that is taken
+-- a message that is accepted
 unfoldable pub message_lines : ℕ → ℕ → Message → List ℕ
 message_lines place len (Message.Open o) = head_line place len (codes "OPEN") ++ open_lines o
 message_lines place len (Message.Update u) = head_line place len (codes "UPDATE take") ++ update_lines u
 message_lines place len (Message.Notification n) = notification_line place len n
 message_lines place len Message.Keepalive = head_line place len (codes "KEEPALIVE")
 
--- a message that is accepted, and notes on what of it is discarded
+-- a message that is accepted, and notes on its discarded attributes
 abbrev pub took_lines : ℕ → ℕ → Message → List Note → List ℕ
 took_lines place len m notes = message_lines place len m ++ flat_map note_line notes
 
@@ -29,8 +29,8 @@ took_lines place len m notes = message_lines place len m ++ flat_map note_line n
 abbrev pub withdraw_lines : ℕ → ℕ → Routes → List Note → List ℕ
 withdraw_lines place len routes notes = head_line place len (codes "UPDATE withdraw") ++ (routes_lines routes ++ flat_map note_line notes)
 
--- What a notification answers, by its code: a header, an OPEN, or else an UPDATE (RFC 4271, section 4.5). The module `laws` has that
--- no reset bears another name than that of what it answers; so the lines are a function of the outcome alone.
+-- What causes a NOTIFICATION, by its code: a header, an OPEN, or else an UPDATE (RFC 4271, section 4.5). The module `laws` states that
+-- no reset has another name than that of what causes it; so the lines are a function of the outcome only.
 abbrev pub reset_name : ℕ → List ℕ
 reset_name code =
     if code == MESSAGE_HEADER then codes "HEADER" else (
@@ -40,7 +40,7 @@ reset_name code =
 abbrev pub reset_line : ℕ → ℕ → Notification → List ℕ
 reset_line place len n = decimal place ++ (codes " " ++ (decimal len ++ (codes " " ++ (reset_name n.code ++ (codes " reset " ++ (notification_text n ++ 10 ∷ []))))))
 
--- what an outcome prints, at its place in the stream and with the octets of its message in number, 0 for a header's fault
+-- what is printed for an outcome, at its offset in the stream and with the length of its message, 0 for a header's fault
 unfoldable pub outcome_lines : ℕ → ℕ → Outcome → List ℕ
 outcome_lines place len (Outcome.Took m notes) = took_lines place len m notes
 outcome_lines place len (Outcome.Withdraw routes notes) = withdraw_lines place len routes notes

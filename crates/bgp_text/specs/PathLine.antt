@@ -6,11 +6,11 @@ abbrev pub kind_name : SegKind → List ℕ
 kind_name SegKind.Set = codes "set"
 kind_name SegKind.Seq = codes "seq"
 
--- an AS number behind a space
+-- an AS number after a space
 abbrev pub number_text : AsNumber → List ℕ
 number_text n = codes " " ++ decimal n.0
 
--- a segment behind a space: the word for its kind, and its numbers
+-- a segment after a space: the word for its kind, and its numbers
 abbrev pub segment_text : Segment → List ℕ
 segment_text s = (codes " " ++ kind_name s.kind) ++ flat_map number_text s.numbers
 
@@ -18,7 +18,7 @@ abbrev pub segments_text : List Segment → List ℕ
 segments_text [] = codes " -"
 segments_text (s ∷ segments) = flat_map segment_text (s ∷ segments)
 
--- a path behind a space: a dash where it is empty, else its segments
+-- a path after a space: a dash where it is empty, else its segments
 unfoldable pub path_text : AsPath → List ℕ
 path_text p = segments_text p.segments
 

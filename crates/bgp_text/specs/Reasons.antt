@@ -1,4 +1,4 @@
--- What was expected where a message is at fault, and at which of an attribute's fields it is.
+-- What was expected where a message is at fault, and which of an attribute's fields is at fault.
 use Rattle.std.specs.Prelude.{ℕ, ◌+◌, ◌*◌, ◌==◌, ◌&&◌, ◌||◌, nat_lt, nat_le, Bool, true, false, List, [], ◌∷◌, slice_index, codes, Option, None, Some, if◌then◌else◌}
 use Rattle.bgp_fields.specs.declared.field.Group.{Group}
 use Rattle.bgp_names.specs.Names.{named}
@@ -38,7 +38,7 @@ length_wanted kind = named (
     (18, codes "8") ∷ (
     (32, codes "a multiple of 12, above 0") ∷ [])))))))))) kind
 
--- what was expected of an attribute of a type, where it has a note
+-- what was expected of an attribute of a type that has a note
 unfoldable pub note_wanted : ℕ → Why → List ℕ
 note_wanted kind Why.Flags = flags_wanted kind
 note_wanted kind Why.Length = length_wanted kind
@@ -56,7 +56,7 @@ note_wanted kind Why.Cut = codes "an end inside the attributes"
 note_wanted kind Why.Missing = codes "one with these routes"
 note_wanted kind Why.AsZero = codes "an AS number above 0"
 
--- of a header, by the subcode of the answer
+-- of a header, by the subcode of the NOTIFICATION
 unfoldable pub header_wanted : ℕ → List ℕ
 header_wanted subcode = named (
     (1, codes "sixteen octets ff") ∷ (
@@ -72,7 +72,7 @@ open_wanted subcode = named (
     (4, codes "2") ∷ (
     (6, codes "0, or at least 3") ∷ []))))) subcode
 
--- of a message that is answered by a NOTIFICATION with a subcode
+-- of a message that causes a NOTIFICATION with a subcode
 unfoldable pub cause_wanted : Cause → ℕ → List ℕ
 cause_wanted Cause.Header subcode = header_wanted subcode
 cause_wanted Cause.Open subcode = open_wanted subcode
@@ -87,7 +87,7 @@ cause_wanted Cause.NextHop subcode = codes "4 for IPv4, 16 or 32 for IPv6"
 cause_wanted Cause.RoutePrefix subcode = codes "a family, a next hop, and prefixes of at most 32 bits, or 128 of IPv6"
 cause_wanted Cause.NothingAnnounced subcode = codes "routes that can be withdrawn"
 
--- ---- where a note is told
+-- ---- where a note is reported
 
 abbrev pub is_flags : FieldKind → Bool
 is_flags FieldKind.AttributeFlags = true
@@ -128,11 +128,11 @@ abbrev pub is_family : FieldKind → Bool
 is_family FieldKind.Afi = true
 is_family _ = false
 
--- no type of segment that an attribute may have: AS4_PATH may have those of confederations too, which are left out (RFC 6793, section 6)
+-- a type of segment that the attribute can't have: AS4_PATH may have those of confederations too, which are dropped (RFC 6793, section 6)
 abbrev pub is_strange : ℕ → ℕ → Bool
 is_strange kind n = (n == 0) || nat_lt (if kind == 17 then 4 else 2) n
 
--- a field of this kind, with these octets, is what is wrong with an attribute of a type
+-- a field of this kind, with these octets, is the one at fault in an attribute of a type
 abbrev pub is_blamed : Why → ℕ → List ℕ → FieldKind → Bool
 is_blamed Why.Flags kind b f = is_flags f
 is_blamed Why.Length kind b f = is_length f
@@ -150,11 +150,11 @@ is_blamed Why.Cut kind b f = is_length f
 is_blamed Why.Missing kind b f = false
 is_blamed Why.AsZero kind b f = is_as f && (number_in b == 0)
 
--- where the attribute of a note begins in the message: its offset is one in the body
+-- the offset in the message of the attribute of a note, whose own offset is that in the body
 abbrev pub note_place : Note → ℕ
 note_place n = n.at + 19
 
--- where its value ends, by its length of one octet, or of two (RFC 4271, section 4.3)
+-- where its value ends, by its length field of one octet or two (RFC 4271, section 4.3)
 abbrev pub note_end : List ℕ → Note → ℕ
 note_end message n =
     if is_extended (slice_index message (note_place n))
@@ -166,15 +166,15 @@ abbrev pub is_in : ℕ → Option Group → Bool
 is_in place None = false
 is_in place (Some group) = group.at == place
 
--- the note has a place, and the field is of its attribute
+-- the note has an offset, and the field is of its attribute
 abbrev pub is_of : Note → Field → Bool
 is_of n f = nat_lt 0 n.at && is_in (note_place n) f.group
 
--- the field of its attribute that a note is told at: what is wrong there, else the last one
+-- the field of its attribute at which a note is reported: the one at fault, else the last one
 abbrev pub is_wrong : List ℕ → Note → Field → Bool
 is_wrong message n f = is_blamed n.why n.kind (octets_in message f) f.kind || nat_le (note_end message n) (f.at + f.len)
 
--- A note is told at such a field, or, where its attribute has none, at the first field behind it.
+-- A note is reported at such a field, or, where its attribute has none, at the first field after it.
 abbrev pub is_at : List ℕ → Note → Field → Bool
 is_at message n f =
     if is_of n f then is_wrong message n f else (

@@ -4,7 +4,7 @@ use Rattle.bgp_fields.specs.declared.cause.Cause.{Cause}
 use Rattle.bgp_text.specs.Below.{Why}
 use Rattle.bgp_names.specs.Names.{named}
 
--- where the value of a type of attribute is judged
+-- the section by which the value of an attribute type is judged
 unfoldable pub value_section : ℕ → List ℕ
 value_section kind = named (
     (1, codes "RFC 7606, section 7.1") ∷ (
@@ -19,7 +19,7 @@ value_section kind = named (
     (18, codes "RFC 6793, section 6") ∷ (
     (32, codes "RFC 8092, section 6") ∷ []))))))))))) kind
 
--- where a note is called for: by its reason, else by the type of the attribute
+-- the section by which a note is made: by its reason, else by the type of the attribute
 unfoldable pub note_section : ℕ → Why → List ℕ
 note_section kind Why.Flags = codes "RFC 7606, section 3, item c"
 note_section kind Why.Missing = codes "RFC 7606, section 3, item d"
@@ -31,7 +31,7 @@ note_section kind Why.Family = codes "RFC 4760, section 8"
 note_section kind Why.Unneeded = codes "RFC 4760, section 3"
 note_section kind _ = value_section kind
 
--- where a reset is called for, by the test that decided; two are rules of our own
+-- the section by which the session is reset, by the test that decided; two are rules of our own
 unfoldable pub cause_section : Cause → List ℕ
 cause_section Cause.Header = codes "RFC 4271, section 6.1"
 cause_section Cause.Open = codes "RFC 4271, section 6.2"

@@ -7,7 +7,7 @@ use crate::short::Short;
 use crate::word::Word;
 use bgp_prefix::{Address, Prefix4, Prefix6};
 
-/// Puts an IPv4 address in front of a word.
+/// Writes an IPv4 address before a word.
 #[tactic(auto, using(crate::proofs::Words::address_in_front))]
 #[inline(always)]
 fn put_ip4_address(word: &mut Word, address: [u8; 4])
@@ -22,7 +22,7 @@ fn put_ip4_address(word: &mut Word, address: [u8; 4])
     word.number(a);
 }
 
-/// Puts a group of an IPv6 address in front of a word: two octets.
+/// Writes a group of an IPv6 address, two octets, before a word.
 #[inline(always)]
 fn put_group(word: &mut Word, address: &[u8; 16], group: usize)
     requires room { length word.old + 4 ≤ 72 }
@@ -33,7 +33,7 @@ fn put_group(word: &mut Word, address: &[u8; 16], group: usize)
     word.hex_pair(address[2 * group], address[2 * group + 1]);
 }
 
-/// Puts four groups of an IPv6 address in front of a word, from this one on.
+/// Writes four groups of an IPv6 address before a word, from this one on.
 #[tactic(auto, using(crate::proofs::Words::four_in_front))]
 fn put_half(word: &mut Word, address: &[u8; 16], group: usize)
     requires room { length word.old + 19 ≤ 72 }
@@ -50,7 +50,7 @@ fn put_half(word: &mut Word, address: &[u8; 16], group: usize)
     put_group(word, address, group);
 }
 
-/// Puts an IPv6 address in front of a word.
+/// Writes an IPv6 address before a word.
 #[tactic(auto, using(crate::proofs::Words::halves_in_front))]
 fn put_ip6_address(word: &mut Word, address: &[u8; 16])
     requires { length word.old + 39 ≤ 72 }
@@ -62,7 +62,7 @@ fn put_ip6_address(word: &mut Word, address: &[u8; 16])
     put_half(word, address, 0);
 }
 
-/// Puts the length of a prefix in front of a word, behind a slash.
+/// Writes the length of a prefix, and a slash before it, before a word.
 #[inline(always)]
 fn put_length(word: &mut Word, len: u8)
     requires { length word.old + 5 ≤ 72 }

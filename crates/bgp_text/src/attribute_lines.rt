@@ -36,7 +36,7 @@ fn put_origin(text: &mut String, origin: Origin) -> Result<(), AllocError>
     }
 }
 
-/// An aggregator's AS number and address behind a label.
+/// An aggregator's AS number and address after a label.
 fn put_aggregator(text: &mut String, label: &str, aggregator: Aggregator) -> Result<(), AllocError>
     ensures { OnOk result (string_bytes text.new ≡ string_bytes text.old ++ aggregator_line label.now aggregator) }
 {

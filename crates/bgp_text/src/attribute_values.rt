@@ -1,4 +1,4 @@
-//! What the values of unrecognised attributes say: for reading alone.
+//! The values of unrecognised attributes in words: only printed.
 
 ghost use Rattle.std.specs.Prelude.{◌≡◌, ◌++◌, codes, option_map, IfOk, OnOk};
 ghost use Rattle.bgp_text.specs.Below.{string_bytes, decimal, ipv4_address_text};
@@ -55,7 +55,7 @@ fn put_metric(text: &mut String, octets: &[u8]) -> Result<(), AllocError>
     Ok(())
 }
 
-/// Adds what a sub-type of an extended community says (RFC 4360, section 3).
+/// Adds the name of an extended community's sub-type (RFC 4360, section 3).
 fn put_subtype(text: &mut String, subtype: u8) -> Result<(), AllocError>
     ensures { OnOk result (string_bytes text.new ≡ string_bytes text.old ++ subtype_text subtype) }
 {
@@ -88,7 +88,7 @@ fn put_address_pair(text: &mut String, owner: [u8; 4], number: u32) -> Result<()
     put_one(text, Decimal(number))
 }
 
-/// Adds whose an extended community is, and its number.
+/// Adds the owner of an extended community, and its number.
 fn put_owned(text: &mut String, kind: u8, value: &[u8]) -> Result<(), AllocError>
     ensures { OnOk result (string_bytes text.new ≡ string_bytes text.old ++ owned_text kind value.now) }
 {
@@ -143,7 +143,7 @@ fn put_extended(text: &mut String, kind: u8, subtype: u8, value: &[u8]) -> Resul
     put_types(text, kind, subtype)
 }
 
-/// Adds the first community of EXTENDED COMMUNITIES, and gives what follows it: none where there is no community.
+/// Adds the first community of EXTENDED COMMUNITIES, and returns what follows it: none where there is no community.
 fn put_first_extended<'a>(
     text: &mut String,
     octets: &'a [u8],
@@ -195,7 +195,7 @@ fn put_extended6(
     put_types(text, kind, subtype)
 }
 
-/// Adds the first one of IPv6 addresses, and gives what follows it: none where there is no community.
+/// Adds the first community for IPv6 addresses, and returns what follows it: none where there is no community.
 fn put_first_extended6<'a>(
     text: &mut String,
     octets: &'a [u8],
@@ -236,7 +236,7 @@ fn put_first_extended6<'a>(
     Ok(Some(rest))
 }
 
-/// Adds the communities of IPv6 addresses.
+/// Adds the communities for IPv6 addresses.
 fn put_extended6_row(text: &mut String, octets: &[u8]) -> Result<(), AllocError>
     ensures { OnOk result (string_bytes text.new ≡ string_bytes text.old ++ extended6_row octets.now) }
 {

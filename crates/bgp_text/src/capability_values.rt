@@ -1,4 +1,4 @@
-//! What the values of capabilities say on which no verdict depends: for reading alone.
+//! The values of capabilities on which no verdict depends, in words: only printed.
 
 ghost use Rattle.std.specs.Prelude.{◌≡◌, ◌++◌, drop, option_map, take, IfOk, OnOk};
 ghost use Rattle.bgp_text.specs.Below.{string_bytes};
@@ -12,7 +12,7 @@ use bgp_names::{afi_name, safi_name};
 use std::alloc::AllocError;
 use std::str::from_utf8;
 
-/// Adds a name, else the number.
+/// Adds a name, or the number if it has none.
 pub(crate) fn put_name_or_number(
     text: &mut String,
     name: &str,
@@ -36,7 +36,7 @@ fn put_family(text: &mut String, afi: u16, safi: u8) -> Result<(), AllocError>
     put_name_or_number(text, safi_name(safi), u32::from(safi))
 }
 
-/// Adds a comma, where more follows.
+/// Adds a comma, if more follows.
 pub(crate) fn put_further(text: &mut String, rest: &[u8]) -> Result<(), AllocError>
     ensures { OnOk result (string_bytes text.new ≡ string_bytes text.old ++ further rest.now) }
 {
@@ -80,7 +80,7 @@ fn put_hop(text: &mut String, afi: u16, safi: u8, hop: u16) -> Result<(), AllocE
     put_name_or_number(text, afi_name(hop), u32::from(hop))
 }
 
-/// Adds the first family of Extended Next Hop Encoding, and gives what follows it: none where there is no family.
+/// Adds the first family of Extended Next Hop Encoding, and returns what follows it: none where there is no family.
 fn put_first_hop<'a>(text: &mut String, octets: &'a [u8]) -> Result<Option<&'a [u8]>, AllocError>
     ensures { IfOk result (λ rest. PrintsFirst hops_text (string_bytes text.old) (string_bytes text.new) octets.now (option_map (λ r. r.now) rest)) }
 {
@@ -104,7 +104,7 @@ fn put_hops(text: &mut String, octets: &[u8]) -> Result<(), AllocError>
     Ok(())
 }
 
-/// Whether the forwarding state of a family was kept.
+/// Whether the forwarding state of a family was preserved.
 fn kept_text(flags: u8) -> &'static str
     ensures { result.now ≡ kept_text flags }
 {
@@ -141,7 +141,7 @@ fn put_restart(text: &mut String, octets: &[u8]) -> Result<(), AllocError>
     put_restarts(text, families)
 }
 
-/// Adds the first family of Long-Lived Graceful Restart, and gives what follows it: none where there is no family.
+/// Adds the first family of Long-Lived Graceful Restart, and returns what follows it: none where there is no family.
 fn put_first_stale<'a>(text: &mut String, octets: &'a [u8]) -> Result<Option<&'a [u8]>, AllocError>
     ensures { IfOk result (λ rest. PrintsFirst stale_text (string_bytes text.old) (string_bytes text.new) octets.now (option_map (λ r. r.now) rest)) }
 {
@@ -205,7 +205,7 @@ fn where_utf8(octets: &[u8]) -> &str
     }
 }
 
-/// The octets of a name that its length says, and those after it, as far as they are there.
+/// The octets of a name of this length, or all where there are fewer, and those after it.
 fn name_and_rest(len: u8, octets: &[u8]) -> (&[u8], &[u8])
     ensures name { result.0.now ≡ take len octets.now }
     ensures rest { result.1.now ≡ drop len octets.now }

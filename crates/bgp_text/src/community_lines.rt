@@ -9,7 +9,7 @@ use crate::word::Word;
 use bgp_attr::{CommIter, LargeCommIter};
 use std::alloc::AllocError;
 
-/// A community: behind a space its upper and its lower 16 bits.
+/// A community: after a space its upper and its lower 16 bits.
 impl Short for u32 {
     ghost use Rattle.bgp_text.specs.CommunityLines.{community_text};
 
@@ -24,7 +24,7 @@ impl Short for u32 {
     }
 }
 
-/// A large community: behind a space its three numbers.
+/// A large community: after a space its three numbers.
 impl Short for [u32; 3] {
     ghost use Rattle.bgp_text.specs.CommunityLines.{large_text};
 

@@ -1,7 +1,7 @@
 //! The decimal digits of numbers, three at a time.
 //!
-//! How many digits a number has can't be foreseen, and a branch on it costs more than a digit does. So three are written in any case, and those
-//! that the number hasn't lie in front of where it starts.
+//! How many digits a number has can't be predicted, and a branch on it costs more than a digit does. So three are always written, and leading
+//! zeros are before the start that is returned.
 
 ghost use Rattle.std.specs.Prelude.{◌≡◌, ◌+◌, ◌-◌, ◌≤◌, ◌<◌, ◌++◌, length, drop};
 ghost use Rattle.bgp_text.specs.Below.{decimal};
@@ -57,7 +57,7 @@ fn write_three(number: u64, octets: &mut [u8; 72], at: usize)
     octets[at] = hundreds;
 }
 
-/// How many digits a number below 1000 has.
+/// The number of digits of a number below 1000.
 #[inline(always)]
 fn width(number: u64) -> usize
     requires { number < 1000 }
@@ -74,7 +74,7 @@ fn width(number: u64) -> usize
     }
 }
 
-/// Writes a number's digits so that they end at `end`, and returns where they start. Two octets in front of them may change too.
+/// Writes a number's digits so that they end at `end`, and returns where they start. Two octets before them may change too.
 #[inline(always)]
 pub(crate) fn write_digits(number: u64, octets: &mut [u8; 72], end: usize) -> usize
     requires { (length (decimal number) + 2 ≤ end) × (end ≤ 72) }

@@ -1,4 +1,4 @@
-//! What attributes and capabilities say that aren't recognised: for reading alone.
+//! Attributes and capabilities that aren't recognised, in words: only printed, no verdict depends on them.
 
 ghost use Rattle.std.specs.Prelude.{◌≡◌, ◌++◌, OnOk};
 ghost use Rattle.bgp_text.specs.Below.{string_bytes};
@@ -19,7 +19,7 @@ pub(crate) fn code_of(group: Option<Group>) -> u8
     }
 }
 
-/// Adds what the octets of a field say where its kind alone doesn't tell.
+/// Adds the value of a field in words, where that depends on more than its kind.
 #[tactic(auto, unfolding(crate::specs::Details::detail_text))]
 pub(crate) fn put_detail(
     text: &mut String,

@@ -1,6 +1,6 @@
-//! Numbers by how many decimal digits they have at most.
+//! Numbers by their greatest number of decimal digits.
 
-/// A number whose digits a word holds.
+/// A number whose digits fit a word.
 pub(crate) trait Digits: Copy {
     ghost use Rattle.std.specs.Prelude.{ℕ, ◌≡◌, ◌≤◌, length};
     ghost use Rattle.bgp_text.specs.Below.{decimal};
@@ -8,7 +8,7 @@ pub(crate) trait Digits: Copy {
     /// The number.
     ghost value: { Self → ℕ };
 
-    /// How many decimal digits it has at most.
+    /// The greatest number of its decimal digits.
     ghost most: { ℕ };
 
     /// The number in 64 bits.

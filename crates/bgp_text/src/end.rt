@@ -7,7 +7,7 @@ ghost use Rattle.bgp_text.specs.End.{end_line};
 use bgp_frame::End;
 use std::alloc::AllocError;
 
-/// Adds the line of how a stream ended.
+/// Adds the line that says how a stream ended.
 ///
 /// # Errors
 /// `AllocError` where an allocation failed.

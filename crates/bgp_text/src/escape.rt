@@ -1,4 +1,4 @@
-//! What a peer wrote, as a string that a terminal and a reader of JSON can be shown.
+//! Text from a peer, as a string that is safe for a terminal and for a reader of JSON.
 
 ghost use Rattle.std.specs.Prelude.{◌≡◌, ◌<◌, ◌++◌, codes, OnOk};
 ghost use Rattle.bgp_text.specs.Below.{flat_map, chars, string_bytes, hex_octet};
@@ -15,7 +15,7 @@ fn put_control(text: &mut String, number: u8) -> Result<(), AllocError>
     put_octet(text, number)
 }
 
-/// Adds a character, escaped where it has to be.
+/// Adds a character, escaped if necessary.
 fn put_character(text: &mut String, c: char) -> Result<(), AllocError>
     ensures { OnOk result (string_bytes text.new ≡ string_bytes text.old ++ escaped c) }
 {
@@ -27,7 +27,7 @@ fn put_character(text: &mut String, c: char) -> Result<(), AllocError>
     }
 }
 
-/// Adds characters, escaped where they have to be.
+/// Adds characters, escaped if necessary.
 fn put_characters(text: &mut String, told: &str) -> Result<(), AllocError>
     ensures { OnOk result (string_bytes text.new ≡ string_bytes text.old ++ flat_map escaped (chars told.now)) }
 {

@@ -1,4 +1,4 @@
-//! What `explain` prints of a message.
+//! What `explain` prints for a message.
 
 ghost use Rattle.std.specs.Prelude.{◌≡◌, ◌≤◌, ◌++◌, length, OnOk};
 ghost use Rattle.bgp_text.specs.Below.{notification_of_view, string_bytes, outcome_value};
@@ -15,10 +15,10 @@ use bgp_msg::OutcomeView;
 use bgp_open::Context;
 use std::alloc::{AllocError, Global};
 
-/// How many octets of the data of a reset are printed at most.
+/// The greatest number of octets printed of a reset's data.
 const DATA_MAX: usize = 64;
 
-/// Adds how many octets there are, where some are left out.
+/// Adds the number of octets, where some are left out.
 fn put_count(text: &mut String, info: &[u8]) -> Result<(), AllocError>
     ensures { OnOk result (string_bytes text.new ≡ string_bytes text.old ++ count_text info.now) }
 {
@@ -92,10 +92,11 @@ fn put_fields(
     }
 }
 
-/// Adds what [`put_viewed_outcome`](crate::put_viewed_outcome) does of the outcome of a message of this length at its offset in the stream (0 for a
-/// header's fault), but of a reset's data at most 64 octets and how many there are; and then a line for each field of its octets, those of the message or the 19 of the header: its offset in the message, its octets, its name and what it says. Fields of an attribute that isn't kept are marked, and so are
-/// those of the octets at fault where the message is answered by a NOTIFICATION; above the field that is wrong a line has its offset, the reason, what
-/// was expected, and the section of the RFC by which the test decided that failed ("own rule" where it is ours).
+/// Prints as [`put_viewed_outcome`](crate::put_viewed_outcome) does the outcome of a message of this length at its offset in the stream (0 for a
+/// header's fault), but of a reset's data at most 64 octets and their number. Then a line follows for each field of the message, or of the 19 octets
+/// of the header: its offset in the message, its octets, its name and its value. Fields of an attribute that isn't kept are marked, and so are the
+/// octets at fault where the message causes a NOTIFICATION. Above the field at fault a line has its offset, the reason, what was expected, and the
+/// section of the RFC whose test failed ("own rule" where it is ours).
 ///
 /// # Errors
 /// `AllocError` where an allocation failed.

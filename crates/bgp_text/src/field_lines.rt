@@ -20,14 +20,14 @@ use bgp_names::{attribute_name, subcode_name};
 use bgp_update::{Note, NoteIter};
 use std::alloc::AllocError;
 
-/// The beginning of a line: a mark, where a fault lies there.
+/// The beginning of a line: marked where a fault is.
 fn margin(marked: bool) -> &'static str
     ensures { result.now ≡ margin marked }
 {
     if marked { "  > " } else { "    " }
 }
 
-/// Adds what a field says.
+/// Adds the value of a field.
 pub(crate) fn put_said(text: &mut String, message: &[u8], field: &Field) -> Result<(), AllocError>
     ensures { OnOk result (string_bytes text.new ≡ string_bytes text.old ++ field_said message.now field.now) }
 {
@@ -36,7 +36,7 @@ pub(crate) fn put_said(text: &mut String, message: &[u8], field: &Field) -> Resu
     put_detail(text, code_of(field.group), field.kind, octets)
 }
 
-/// Adds a field: its offset in the message, its octets, its name and what it says.
+/// Adds a field: its offset in the message, its octets, its name and its value.
 #[tactic(auto, unfolding(crate::specs::FieldLines::field_text))]
 fn put_field(
     text: &mut String,
@@ -92,7 +92,7 @@ fn put_wanted(text: &mut String, wanted: &str, section: &str) -> Result<(), Allo
     text.push_str(")")
 }
 
-/// Adds why an attribute is discarded, and by which rule.
+/// Adds why an attribute isn't kept, and by which rule.
 pub(crate) fn put_note_reason(text: &mut String, note: &Note) -> Result<(), AllocError>
     ensures { OnOk result (string_bytes text.new ≡ string_bytes text.old ++ note_reason note.now) }
 {
@@ -106,7 +106,7 @@ pub(crate) fn put_note_reason(text: &mut String, note: &Note) -> Result<(), Allo
     )
 }
 
-/// Adds the beginning of a reason's line: where it is told.
+/// Adds the beginning of a reason's line: its offset.
 fn put_place(text: &mut String, at: u16) -> Result<(), AllocError>
     ensures { OnOk result (string_bytes text.new ≡ string_bytes text.old ++ reason_place at) }
 {
@@ -115,7 +115,7 @@ fn put_place(text: &mut String, at: u16) -> Result<(), AllocError>
     text.push_str(" ")
 }
 
-/// Adds a field that a note is told at, with the marks of its attribute.
+/// Adds a field at which a note is reported, with the marks of its attribute.
 fn put_noted(
     text: &mut String,
     marked: bool,
@@ -131,7 +131,7 @@ fn put_noted(
     put_plain(text, marked, message, field)
 }
 
-/// Adds a note on an attribute that isn't there.
+/// Adds a note on an attribute that is missing.
 fn put_unplaced(text: &mut String, note: &Note) -> Result<(), AllocError>
     ensures { OnOk result (string_bytes text.new ≡ string_bytes text.old ++ unplaced_line note.now) }
 {
@@ -140,7 +140,7 @@ fn put_unplaced(text: &mut String, note: &Note) -> Result<(), AllocError>
     text.push_str("\n")
 }
 
-/// The lines of notes that have no field: those of a row, of which the first one is taken out.
+/// The lines of notes that have no field: those of a row whose first one was removed.
 fn put_unplaced_row(
     text: &mut String,
     first: Option<Note>,
@@ -157,7 +157,7 @@ fn put_unplaced_row(
     Ok(())
 }
 
-/// Notes in their order, the next one taken out, and where the attribute begins that the last one was about: 0 before the first one.
+/// Notes in their order, the next one removed, and the offset of the attribute of the last one: 0 before the first one.
 #[derive(Clone, Copy)]
 pub(crate) struct Noting<'a> {
     pub(crate) next: Option<Note>,
@@ -165,7 +165,7 @@ pub(crate) struct Noting<'a> {
     pub(crate) place: u32,
 }
 
-/// The next note, where it is told at a field.
+/// The next note, if it is reported at a field.
 pub(crate) fn note_at(next: Option<Note>, message: &[u8], field: &Field) -> Option<Note>
     ensures { result ≡ note_at next message.now field.now }
 {
@@ -201,7 +201,7 @@ impl<'a> Noting<'a> {
         }
     }
 
-    /// Adds the next field.
+    /// Adds the lines of the next field.
     #[tactic(auto, using(crate::proofs::FieldLines::put_none, crate::proofs::FieldLines::put_note))]
     fn put(&mut self, text: &mut String, message: &[u8], field: &Field) -> Result<(), AllocError>
         ensures { OnOk result ((fields : List FieldValue) → string_bytes text.new ++ noting_lines message.now self.new fields
@@ -220,7 +220,7 @@ impl<'a> Noting<'a> {
     }
 }
 
-/// Adds the lines of fields, with each note above the field where it is told.
+/// Adds the lines of fields, with each note above the field where it is reported.
 #[tactic(auto, using(crate::proofs::FieldLines::at_end))]
 pub(crate) fn put_noted_fields(
     text: &mut String,
@@ -238,7 +238,7 @@ pub(crate) fn put_noted_fields(
     put_unplaced_row(text, noting.next, noting.later)
 }
 
-/// Adds the lines of fields of a message on which there are no notes.
+/// Adds the lines of fields of a message without notes.
 pub(crate) fn put_plain_fields(
     text: &mut String,
     message: &[u8],
@@ -263,7 +263,7 @@ fn put_answer(text: &mut String, code: u8, subcode: u8) -> Result<(), AllocError
     put_spaced(text, subcode_name(code, subcode))
 }
 
-/// Adds the NOTIFICATION that answers a message, what was expected, and by which rule.
+/// Adds the NOTIFICATION that a message causes, what was expected, and by which rule.
 pub(crate) fn put_reset_reason(
     text: &mut String,
     code: u8,
@@ -276,7 +276,7 @@ pub(crate) fn put_reset_reason(
     put_wanted(text, cause_wanted(cause, subcode), cause_section(cause))
 }
 
-/// Whether some of a field's octets are of a span.
+/// Whether a field and a span overlap.
 pub(crate) fn overlaps(span: Span, field: &Field) -> bool
     ensures { result ≡ overlaps span field.now }
 {
@@ -291,7 +291,7 @@ pub(crate) fn holds(span: Span, field: &Field) -> bool
     field.at <= span.at && u32::from(span.at) < u32::from(field.at) + u32::from(field.len)
 }
 
-/// Adds the lines of a field of a message that is answered for a fault: why, above the field where that begins.
+/// Adds the lines of a field of a message with a fault: the reason, above the field where that begins.
 fn put_blamed(
     text: &mut String,
     message: &[u8],
@@ -309,7 +309,7 @@ fn put_blamed(
     put_plain(text, overlaps(fault.span, field), message, field)
 }
 
-/// Adds the lines of a field of a message that is answered by a NOTIFICATION.
+/// Adds the lines of a field of a message that causes a NOTIFICATION.
 fn put_faulty(
     text: &mut String,
     message: &[u8],
@@ -325,7 +325,7 @@ fn put_faulty(
     }
 }
 
-/// Adds the lines of the fields of a message that is answered by a NOTIFICATION.
+/// Adds the lines of the fields of a message that causes a NOTIFICATION.
 pub(crate) fn put_faulty_fields(
     text: &mut String,
     message: &[u8],

@@ -1,4 +1,4 @@
-//! What a field says, behind its name.
+//! The value of a field, printed after its name.
 
 ghost use Rattle.std.specs.Prelude.{◌≡◌, ◌+◌, ◌≤◌, ◌++◌, codes, drop, slice_index, take, OnOk};
 ghost use Rattle.bgp_text.specs.Below.{flat_map, string_bytes, subcode_name};
@@ -23,7 +23,7 @@ use bgp_prefix::{Address, Prefix6, PrefixIter};
 use std::alloc::AllocError;
 use std::net::Ipv6Addr;
 
-/// The number that one octet, two or four spell, the first one the highest.
+/// The number in one octet, two or four, highest first.
 pub(crate) fn number_in(octets: &[u8]) -> u32
     ensures { result ≡ number_in octets.now }
 {
@@ -35,7 +35,7 @@ pub(crate) fn number_in(octets: &[u8]) -> u32
     }
 }
 
-/// So many octets from an offset on, as far as they are there.
+/// The octets from an offset on, or fewer where the input ends before.
 pub(crate) fn part(octets: &[u8], at: usize, len: usize) -> &[u8]
     ensures { result.now ≡ take len (drop at octets.now) }
 {
@@ -44,7 +44,7 @@ pub(crate) fn part(octets: &[u8], at: usize, len: usize) -> &[u8]
     part
 }
 
-/// Adds a text behind a space, where there is one.
+/// Adds a text after a space, if there is one.
 pub(crate) fn put_spaced(text: &mut String, name: &str) -> Result<(), AllocError>
     ensures { OnOk result (string_bytes text.new ≡ string_bytes text.old ++ spaced name.now) }
 {
@@ -55,7 +55,7 @@ pub(crate) fn put_spaced(text: &mut String, name: &str) -> Result<(), AllocError
     text.push_str(name)
 }
 
-/// Adds a number, and its name, where it has one.
+/// Adds a number, and its name if it has one.
 pub(crate) fn put_numbered(text: &mut String, name: &str, number: u32) -> Result<(), AllocError>
     ensures { OnOk result (string_bytes text.new ≡ string_bytes text.old ++ numbered name.now number) }
 {
@@ -97,7 +97,7 @@ fn is_number(kind: FieldKind) -> bool
     }
 }
 
-/// What the registries call the octet of a field.
+/// The name in the registries for a field of one octet.
 fn octet_name(kind: FieldKind, number: u8) -> &'static str
     ensures { result.now ≡ octet_name kind number }
 {
@@ -114,7 +114,7 @@ fn octet_name(kind: FieldKind, number: u8) -> &'static str
     }
 }
 
-/// What they call the two octets of one.
+/// The name for one of two octets.
 fn pair_name(kind: FieldKind, number: u16) -> &'static str
     ensures { result.now ≡ pair_name kind number }
 {
@@ -124,7 +124,7 @@ fn pair_name(kind: FieldKind, number: u16) -> &'static str
     }
 }
 
-/// What they call the number in a field.
+/// The name for the number in a field.
 fn number_name(kind: FieldKind, octets: &[u8]) -> &'static str
     ensures { result.now ≡ number_name kind octets.now }
 {
@@ -158,7 +158,7 @@ pub(crate) fn put_address(text: &mut String, octets: &[u8]) -> Result<(), AllocE
     Ok(())
 }
 
-/// Adds a value behind a space.
+/// Adds a value after a space.
 fn put_behind_space<T: Short>(text: &mut String, value: T) -> Result<(), AllocError>
     requires { T.most + 3 ≤ 72 }
     ensures { OnOk result (string_bytes text.new ≡ string_bytes text.old ++ (codes " " ++ T.text value)) }
@@ -169,7 +169,7 @@ fn put_behind_space<T: Short>(text: &mut String, value: T) -> Result<(), AllocEr
     text.push_str(word.text())
 }
 
-/// Adds values, each behind a space.
+/// Adds values, each after a space.
 fn put_each<T: Short, S: Source<Item = T>>(text: &mut String, values: S) -> Result<(), AllocError>
     requires { T.most + 3 ≤ 72 }
     ensures { OnOk result (string_bytes text.new ≡ string_bytes text.old ++ flat_map (λ v. codes " " ++ T.text v) (S.left values)) }
@@ -208,7 +208,7 @@ fn put_prefixes6(text: &mut String, octets: &[u8]) -> Result<(), AllocError>
     Ok(())
 }
 
-/// The first octet; 0 where there is none.
+/// The first octet; 0 if there is none.
 pub(crate) fn octet_at(octets: &[u8], at: usize) -> u8
     ensures { result ≡ slice_index octets.now at }
 {
@@ -238,7 +238,7 @@ fn put_flags(text: &mut String, flags: Flags) -> Result<(), AllocError>
     text.push_str(if flags.is_extended() { " extended" } else { "" })
 }
 
-/// Adds a community, and its name where it is well-known.
+/// Adds a community, and its name if it is well-known.
 fn put_community(text: &mut String, community: u32) -> Result<(), AllocError>
     ensures { OnOk result (string_bytes text.new ≡ string_bytes text.old ++ named_community community) }
 {
@@ -258,7 +258,7 @@ fn put_large(text: &mut String, octets: &[u8]) -> Result<(), AllocError>
     )
 }
 
-/// Adds what was said, as a string, where anything was.
+/// Adds text from a peer, as a string, unless it is empty.
 pub(crate) fn put_said(text: &mut String, said: &str) -> Result<(), AllocError>
     ensures { OnOk result (string_bytes text.new ≡ string_bytes text.old ++ said_text said.now) }
 {
@@ -285,7 +285,7 @@ fn put_data(text: &mut String, message: &[u8], octets: &[u8]) -> Result<(), Allo
     put_said(text, said)
 }
 
-/// Adds what a field says that isn't a number alone.
+/// Adds the value of a field that isn't only a number.
 fn put_other(
     text: &mut String,
     message: &[u8],
@@ -311,7 +311,7 @@ fn put_other(
     }
 }
 
-/// Adds what the octets of a field say, in a message.
+/// Adds the value of a field's octets, in a message.
 #[tactic(auto, unfolding(crate::specs::FieldValues::value_text))]
 pub(crate) fn put_value(
     text: &mut String,

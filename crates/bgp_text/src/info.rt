@@ -1,4 +1,4 @@
-//! Information and notifications as text.
+//! The data of NOTIFICATIONs, and NOTIFICATIONs, as text.
 
 ghost use Rattle.std.specs.Prelude.{◌≡◌, ◌++◌, IfOk, OnOk};
 ghost use Rattle.bgp_text.specs.Below.{string_bytes};
@@ -21,7 +21,7 @@ pub fn info_text(alloc: Global, info: &[u8]) -> Result<String, AllocError>
     hex::encode(alloc, info)
 }
 
-/// Adds octets as [`info_text`] has them: without memory of its own where there are none.
+/// Adds octets as [`info_text`] prints them, without an allocation where there are none.
 #[tactic(auto, unfolding(crate::specs::Info::info_text))]
 pub(crate) fn put_info(alloc: Global, text: &mut String, info: &[u8]) -> Result<(), AllocError>
     ensures { OnOk result (string_bytes text.new ≡ string_bytes text.old ++ info_text info.now) }
@@ -33,7 +33,7 @@ pub(crate) fn put_info(alloc: Global, text: &mut String, info: &[u8]) -> Result<
     text.push_str(digits.as_str())
 }
 
-/// A notification's code, subcode and information, while they lie in octets.
+/// A NOTIFICATION's code, subcode and data, while they are borrowed.
 #[tactic(auto, unfolding(crate::specs::Info::notification_text))]
 pub(crate) fn told_text(
     alloc: Global,
@@ -49,7 +49,7 @@ pub(crate) fn told_text(
     Ok(text)
 }
 
-/// A notification's code, subcode and information, as in `1/2 0012`.
+/// A NOTIFICATION's code, subcode and data, as in `1/2 0012`.
 ///
 /// # Errors
 /// `AllocError` where an allocation failed.

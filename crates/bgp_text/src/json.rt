@@ -19,7 +19,7 @@ pub(crate) fn put_quoted(text: &mut String, characters: &str) -> Result<(), Allo
     text.push_str("\"")
 }
 
-/// Adds a short value as a string: its text needs no escape.
+/// Adds a short value as a string whose text needs no escape.
 #[tactic(auto, unfolding(crate::specs::Json::quoted))]
 #[inline(always)]
 pub(crate) fn put_string<T: Short>(text: &mut String, value: T) -> Result<(), AllocError>
@@ -69,7 +69,7 @@ pub(crate) fn put_octets(text: &mut String, octets: &[u8]) -> Result<(), AllocEr
     text.push_str("\"")
 }
 
-/// Adds the name of a further member, behind a comma.
+/// Adds the name of a further member, after a comma.
 #[tactic(auto, unfolding(crate::specs::Json::named))]
 pub(crate) fn put_name(text: &mut String, name: &str) -> Result<(), AllocError>
     ensures { OnOk result (string_bytes text.new ≡ string_bytes text.old ++ named name.now) }
@@ -103,7 +103,7 @@ pub(crate) fn put_word_member(
     put_quoted(text, characters)
 }
 
-/// Adds a member that is a string, where there is something in it.
+/// Adds a member that is a string, unless it is empty.
 #[tactic(auto, unfolding(crate::specs::Json::where_named))]
 pub(crate) fn put_name_member(
     text: &mut String,
@@ -118,7 +118,7 @@ pub(crate) fn put_name_member(
     put_word_member(text, name, characters)
 }
 
-/// Adds a member that is text of a peer's, where there is any.
+/// Adds a member that is text from a peer, unless it is empty.
 #[tactic(auto, unfolding(crate::specs::Json::where_said))]
 pub(crate) fn put_said_member(text: &mut String, name: &str, said: &str) -> Result<(), AllocError>
     ensures { OnOk result (string_bytes text.new ≡ string_bytes text.old ++ where_said name.now said.now) }
@@ -142,14 +142,14 @@ pub(crate) fn put_octets_member(
     put_octets(text, octets)
 }
 
-/// The word for whether something is so.
+/// The word for a truth value.
 fn boolean(is_so: bool) -> &'static str
     ensures { result.now ≡ boolean is_so }
 {
     if is_so { "true" } else { "false" }
 }
 
-/// Adds a member that tells whether something is so.
+/// Adds a member that is a truth value.
 pub(crate) fn put_flag_member(text: &mut String, name: &str, is_so: bool) -> Result<(), AllocError>
     ensures { OnOk result (string_bytes text.new ≡ string_bytes text.old ++ member name.now boolean is_so) }
 {

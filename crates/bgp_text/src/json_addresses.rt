@@ -12,7 +12,7 @@ use bgp_prefix::{Address, Prefix};
 use std::alloc::AllocError;
 use std::net::Ipv6Addr;
 
-/// Adds an IPv6 address behind a quotation mark. That of all zeros takes the least octets on the wire, and is at hand.
+/// Adds an IPv6 address after a quotation mark. That of all zeros is the shortest on the wire, and has a fast path.
 #[tactic(auto, unfolding(crate::specs::JsonAddress::ip6_text))]
 fn put_ip6_text(text: &mut String, address: [u8; 16]) -> Result<(), AllocError>
     ensures { OnOk result (string_bytes text.new ≡ string_bytes text.old ++ (codes "\"" ++ ip6_text address)) }

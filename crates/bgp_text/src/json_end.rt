@@ -10,7 +10,7 @@ use crate::json::{put_line_end, put_number_member, put_quoted, put_word_member};
 use bgp_frame::End;
 use std::alloc::AllocError;
 
-/// Adds the beginning of the object: the word for how the stream ended.
+/// Adds the beginning of the object: the word that says how the stream ended.
 #[tactic(auto, unfolding(crate::specs::JsonEnd::ended))]
 fn put_ended(text: &mut String, word: &str) -> Result<(), AllocError>
     ensures { OnOk result (string_bytes text.new ≡ string_bytes text.old ++ ended word.now) }
@@ -20,7 +20,7 @@ fn put_ended(text: &mut String, word: &str) -> Result<(), AllocError>
     put_word_member(text, "end", word)
 }
 
-/// Adds the whole object, where there is no number in it.
+/// Adds the whole object, where it has no number.
 fn put_over(text: &mut String, word: &str) -> Result<(), AllocError>
     ensures { OnOk result (string_bytes text.new ≡ string_bytes text.old ++ (ended word.now ++ line_end)) }
 {
@@ -28,7 +28,7 @@ fn put_over(text: &mut String, word: &str) -> Result<(), AllocError>
     put_line_end(text)
 }
 
-/// Adds the object of a stream that ends where so many octets of an incomplete message were read.
+/// Adds the object of a stream that ends with this number of octets of an incomplete message.
 fn put_waiting(text: &mut String, count: u16) -> Result<(), AllocError>
     ensures { OnOk result (string_bytes text.new ≡ string_bytes text.old ++ end_json (Wait count)) }
 {

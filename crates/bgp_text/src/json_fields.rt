@@ -1,4 +1,4 @@
-//! What `explain --json` prints of a message.
+//! What `explain --json` prints for a message.
 
 ghost use Rattle.std.specs.Prelude.{◌≡◌, ◌≤◌, ◌++◌, codes, length, map, OnOk};
 ghost use Rattle.bgp_text.specs.Below.{flat_map, string_bytes, notes_left, fields_left, outcome_value};
@@ -24,7 +24,7 @@ use bgp_open::Context;
 use bgp_update::{Note, NoteIter};
 use std::alloc::{AllocError, Global};
 
-/// What a field says, without the space that stands before it.
+/// The value of a field, without the space before it.
 fn without_space(said: &str) -> &str
     ensures { result.now ≡ without_space said.now }
 {
@@ -34,7 +34,7 @@ fn without_space(said: &str) -> &str
     }
 }
 
-/// Adds where a field is, its octets and its name.
+/// Adds a field's offset, its octets and its name.
 fn put_field(text: &mut String, message: &[u8], field: &Field) -> Result<(), AllocError>
     ensures { OnOk result (string_bytes text.new ≡ string_bytes text.old ++ field_members message.now field.now) }
 {
@@ -46,7 +46,7 @@ fn put_field(text: &mut String, message: &[u8], field: &Field) -> Result<(), All
     put_word_member(text, "name", field_name(field.kind))
 }
 
-/// Adds what a field says, where it says anything.
+/// Adds the value of a field, if it has one.
 fn put_value(
     alloc: Global,
     text: &mut String,
@@ -60,7 +60,7 @@ fn put_value(
     put_said_member(text, "value", without_space(said.as_str()))
 }
 
-/// Adds a mark, where there is one.
+/// Adds a mark, if it has one.
 fn put_marked(text: &mut String, marked: bool) -> Result<(), AllocError>
     ensures { OnOk result (string_bytes text.new ≡ string_bytes text.old ++ marked_member marked) }
 {
@@ -80,7 +80,7 @@ fn put_note(text: &mut String, note: &Note) -> Result<(), AllocError>
     text.push_str("\"")
 }
 
-/// Adds what a message is answered for as a string.
+/// Adds the reason of a NOTIFICATION as a string.
 #[tactic(auto, unfolding(crate::specs::Json::quoted))]
 fn put_answer(text: &mut String, code: u8, subcode: u8, cause: Cause) -> Result<(), AllocError>
     ensures { OnOk result (string_bytes text.new ≡ string_bytes text.old ++ quoted (reset_reason code subcode cause)) }
@@ -90,7 +90,7 @@ fn put_answer(text: &mut String, code: u8, subcode: u8, cause: Cause) -> Result<
     text.push_str("\"")
 }
 
-/// Adds what is wrong at a field, where anything is.
+/// Adds what is wrong at a field, if anything.
 fn put_wrong(text: &mut String, wrong: &Wrong) -> Result<(), AllocError>
     ensures { OnOk result (string_bytes text.new ≡ string_bytes text.old ++ wrong_member wrong.now) }
 {
@@ -123,7 +123,7 @@ impl<'a> Element for Shown<'a> {
     }
 }
 
-/// Adds notes that have no field, each behind a comma.
+/// Adds notes that have no field, each after a comma.
 fn put_further(text: &mut String, notes: NoteIter<'_>) -> Result<(), AllocError>
     ensures { OnOk result (string_bytes text.new ≡ string_bytes text.old ++ flat_map (behind_comma unplaced_json) (notes_left notes.entry)) }
 {
@@ -135,7 +135,7 @@ fn put_further(text: &mut String, notes: NoteIter<'_>) -> Result<(), AllocError>
     Ok(())
 }
 
-/// Adds the notes that have no field, where there are any: those of a row, of which the first one is taken out.
+/// Adds the notes that have no field, if there are any: those of a row whose first one was removed.
 #[tactic(auto, unfolding(crate::specs::Json::joined))]
 fn put_faults(text: &mut String, first: Option<Note>, later: NoteIter<'_>) -> Result<(), AllocError>
     ensures { OnOk result (string_bytes text.new ≡ string_bytes text.old ++ faults_member (row_of first (notes_left later.entry))) }
@@ -150,7 +150,7 @@ fn put_faults(text: &mut String, first: Option<Note>, later: NoteIter<'_>) -> Re
     text.push_str("]")
 }
 
-/// Adds the notes that are told at none of the fields.
+/// Adds the notes that are reported at none of the fields.
 fn put_unplaced(
     text: &mut String,
     message: &[u8],
@@ -221,7 +221,7 @@ fn put_plain(
     put_list_member(text, "fields", told)
 }
 
-/// Adds the fields of a message that is answered by a NOTIFICATION.
+/// Adds the fields of a message that causes a NOTIFICATION.
 #[tactic(auto, using(crate::proofs::JsonLists::listed_map))]
 fn put_faulty(
     alloc: Global,
@@ -279,8 +279,8 @@ fn span_of(fault: Option<Fault>) -> Option<Span>
     }
 }
 
-/// Adds a message, or the header of one, as a JSON object on a line: what [`put_viewed_json`](crate::put_viewed_json) adds, and at its end the fields of
-/// its octets, as [`put_explained`](crate::put_explained) tells them.
+/// Adds a message, or the header of one, as a JSON object on a line: as [`put_viewed_json`](crate::put_viewed_json), with the fields of
+/// its octets at the end, as [`put_explained`](crate::put_explained) reports them.
 ///
 /// # Errors
 /// `AllocError` where an allocation failed.

@@ -8,7 +8,7 @@ use crate::json::put_name;
 use crate::source::Source;
 use std::alloc::AllocError;
 
-/// What stands in lists.
+/// A value in a list.
 pub(crate) trait Element: Copy {
     ghost use Rattle.std.specs.Prelude.{◌≡◌, ◌++◌, ℕ, List, OnOk};
     ghost use Rattle.bgp_text.specs.Below.{string_bytes};
@@ -21,7 +21,7 @@ pub(crate) trait Element: Copy {
         ensures { OnOk result (string_bytes text.new ≡ string_bytes text.old ++ json self.now) };
 }
 
-/// Adds a value behind a comma.
+/// Adds a value after a comma.
 fn put_behind_comma<T: Element>(text: &mut String, value: &T) -> Result<(), AllocError>
     ensures { OnOk result (string_bytes text.new ≡ string_bytes text.old ++ behind_comma T.json value.now) }
 {
@@ -29,7 +29,7 @@ fn put_behind_comma<T: Element>(text: &mut String, value: &T) -> Result<(), Allo
     value.put_json(text)
 }
 
-/// Adds values, each behind a comma.
+/// Adds values, each after a comma.
 pub(crate) fn put_further<T: Element, S: Source<Item = T>>(
     text: &mut String,
     values: S,

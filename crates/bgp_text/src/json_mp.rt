@@ -42,7 +42,7 @@ fn put_ip4_reach(
     text.push_str("}")
 }
 
-/// Adds the link-local next hop, where there is one.
+/// Adds the link-local next hop, if it is present.
 fn put_link_local(text: &mut String, link_local: Option<[u8; 16]>) -> Result<(), AllocError>
     ensures { OnOk result (string_bytes text.new ≡ string_bytes text.old ++ where_there (member (codes "link_local") ip6_json) link_local) }
 {
@@ -84,7 +84,7 @@ pub(crate) fn put_reach(text: &mut String, reach: MpReachView<'_>) -> Result<(),
     }
 }
 
-/// Adds IPv4 routes that are withdrawn.
+/// Adds withdrawn IPv4 routes.
 #[tactic(auto, unfolding(crate::specs::JsonMp::unreach_json))]
 fn put_ip4_unreach(text: &mut String, routes: PrefixIter4<'_>) -> Result<(), AllocError>
     ensures { OnOk result (string_bytes text.new ≡ string_bytes text.old ++ unreach_json (unreach.Ip4 (prefixes_left routes.entry))) }
@@ -94,7 +94,7 @@ fn put_ip4_unreach(text: &mut String, routes: PrefixIter4<'_>) -> Result<(), All
     text.push_str("}")
 }
 
-/// Adds IPv6 routes that are withdrawn.
+/// Adds withdrawn IPv6 routes.
 #[tactic(auto, unfolding(crate::specs::JsonMp::unreach_json))]
 fn put_ip6_unreach(text: &mut String, routes: PrefixIter6<'_>) -> Result<(), AllocError>
     ensures { OnOk result (string_bytes text.new ≡ string_bytes text.old ++ unreach_json (unreach.Ip6 (prefixes_left routes.entry))) }

@@ -21,7 +21,7 @@ fn put_code(text: &mut String, code: u8) -> Result<(), AllocError>
     put_decimal(text, u32::from(code))
 }
 
-/// Adds the end of an object: the name of the capability, where it has one.
+/// Adds the end of an object: the name of the capability, if it has one.
 fn put_name_end(text: &mut String, code: u8) -> Result<(), AllocError>
     ensures { OnOk result (string_bytes text.new ≡ string_bytes text.old ++ name_end code) }
 {
@@ -71,7 +71,7 @@ fn put_capability(text: &mut String, capability: &Capability) -> Result<(), Allo
     }
 }
 
-/// Adds a capability behind a comma.
+/// Adds a capability after a comma.
 fn put_another_capability(text: &mut String, capability: &Capability) -> Result<(), AllocError>
     ensures { OnOk result (string_bytes text.new ≡ string_bytes text.old ++ behind_comma capability_json capability.now) }
 {
@@ -79,7 +79,7 @@ fn put_another_capability(text: &mut String, capability: &Capability) -> Result<
     put_capability(text, capability)
 }
 
-/// Adds capabilities, each behind a comma.
+/// Adds capabilities, each after a comma.
 fn put_further_capabilities(text: &mut String, caps: &[Capability]) -> Result<(), AllocError>
     ensures { OnOk result (string_bytes text.new ≡ string_bytes text.old ++ flat_map (behind_comma capability_json) caps.now) }
 {

@@ -1,4 +1,4 @@
-//! An outcome as a line of JSON, while it lies in octets.
+//! An outcome as a line of JSON, while it is borrowed.
 
 ghost use Rattle.std.specs.Prelude.{◌≡◌, ◌++◌, [], OnOk};
 ghost use Rattle.bgp_text.specs.Below.{decimal, string_bytes, notification_of_view, open_value, update_value, notes_value, routes_value};
@@ -32,7 +32,7 @@ fn put_wide(text: &mut String, number: u64) -> Result<(), AllocError>
     put_one(text, Decimal(number))
 }
 
-/// Adds the beginning of an object: where a message stands, how long it is, what it is, and the verdict on it.
+/// Adds the beginning of an object: a message's offset, its length, what it is, and the verdict on it.
 #[tactic(auto, unfolding(crate::specs::JsonOutcome::judged))]
 fn put_judged(
     text: &mut String,
@@ -50,7 +50,7 @@ fn put_judged(
     put_word_member(text, "verdict", verdict)
 }
 
-/// Adds the names of a NOTIFICATION's code and subcode, and its text where it shuts a session down.
+/// Adds the names of a NOTIFICATION's code and subcode, and its text if it shuts a session down.
 fn put_names(text: &mut String, said: &NotificationView<'_>) -> Result<(), AllocError>
     ensures { OnOk result (string_bytes text.new ≡ string_bytes text.old ++ names_of (notification_of_view said.now)) }
 {
@@ -63,7 +63,7 @@ fn put_names(text: &mut String, said: &NotificationView<'_>) -> Result<(), Alloc
     )
 }
 
-/// Adds what a NOTIFICATION says.
+/// Adds the content of a NOTIFICATION.
 fn put_notification_members(
     text: &mut String,
     said: &NotificationView<'_>,
@@ -145,7 +145,7 @@ fn put_keepalive(text: &mut String, place: u64, len: u16) -> Result<(), AllocErr
     put_judged(text, place, len, "KEEPALIVE", "take")
 }
 
-/// Adds how many octets there are.
+/// Adds the number of octets.
 #[tactic(auto, unfolding(crate::specs::JsonOutcome::count_member))]
 fn put_count(text: &mut String, span: Span) -> Result<(), AllocError>
     ensures { OnOk result (string_bytes text.new ≡ string_bytes text.old ++ count_member span) }
@@ -153,7 +153,7 @@ fn put_count(text: &mut String, span: Span) -> Result<(), AllocError>
     put_number_member(text, "fault_length", u32::from(span.len))
 }
 
-/// Adds octets of a message: the offset of the first, and how many there are.
+/// Adds octets of a message: the offset of the first, and their number.
 fn put_fault(text: &mut String, span: Span) -> Result<(), AllocError>
     ensures { OnOk result (string_bytes text.new ≡ string_bytes text.old ++ fault_members span) }
 {
@@ -161,7 +161,7 @@ fn put_fault(text: &mut String, span: Span) -> Result<(), AllocError>
     put_count(text, span)
 }
 
-/// Adds the octets for which a message is answered.
+/// Adds the octets that cause a NOTIFICATION.
 fn put_span_members(text: &mut String, span: Option<Span>) -> Result<(), AllocError>
     ensures { OnOk result (string_bytes text.new ≡ string_bytes text.old ++ span_members span) }
 {
@@ -186,7 +186,7 @@ fn put_answer(
     put_span_members(text, span)
 }
 
-/// Adds the object of an outcome up to its end.
+/// Adds the object of an outcome except its end.
 #[tactic(auto, unfolding(crate::specs::JsonOutcome::outcome_members))]
 pub(crate) fn put_viewed_members(
     alloc: Global,
@@ -208,8 +208,8 @@ pub(crate) fn put_viewed_members(
     }
 }
 
-/// Adds the outcome of a message, or of the header of one, as a JSON object on a line: its offset in the stream, its octets in number (0 for
-/// a header's fault), and what [`put_viewed_outcome`](crate::put_viewed_outcome) prints; of a reset the octets too for which it is one.
+/// Adds the outcome of a message, or of the header of one, as a JSON object on a line: its offset in the stream, its length (0 for
+/// a header's fault), and what [`put_viewed_outcome`](crate::put_viewed_outcome) prints; for a reset also the octets that cause it.
 ///
 /// # Errors
 /// `AllocError` where an allocation failed.

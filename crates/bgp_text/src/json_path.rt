@@ -42,7 +42,7 @@ fn put_segment(text: &mut String, segment: &SegmentView<'_>) -> Result<(), Alloc
     text.push_str("}")
 }
 
-/// Adds a segment behind a comma.
+/// Adds a segment after a comma.
 fn put_another_segment(text: &mut String, segment: &SegmentView<'_>) -> Result<(), AllocError>
     ensures { OnOk result (string_bytes text.new ≡ string_bytes text.old ++ behind_comma segment_json (segment_value segment.now)) }
 {
@@ -50,7 +50,7 @@ fn put_another_segment(text: &mut String, segment: &SegmentView<'_>) -> Result<(
     put_segment(text, segment)
 }
 
-/// Adds segments, each behind a comma.
+/// Adds segments, each after a comma.
 fn put_further_segments(text: &mut String, segments: SegmentIter<'_>) -> Result<(), AllocError>
     ensures { OnOk result (string_bytes text.new ≡ string_bytes text.old ++ flat_map (behind_comma segment_json) (segments_left segments.entry)) }
 {

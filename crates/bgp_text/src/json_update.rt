@@ -1,4 +1,4 @@
-//! An UPDATE, and routes that are withdrawn, as JSON.
+//! An UPDATE, and withdrawn routes, as JSON.
 
 ghost use Rattle.std.specs.Prelude.{◌≡◌, ◌++◌, codes, map, OnOk};
 ghost use Rattle.bgp_text.specs.Below.{flat_map, string_bytes, routes_value};
@@ -61,7 +61,7 @@ fn put_joined_routes(text: &mut String, routes: &Routes) -> Result<(), AllocErro
     put_further(text, ip6)
 }
 
-/// Adds the routes of an UPDATE that is treated as a withdrawal. They are made for it: such an UPDATE is rare.
+/// Adds the routes of an UPDATE that is treated as a withdrawal. They are collected first: such an UPDATE is rare.
 #[tactic(auto, unfolding(crate::specs::JsonUpdate::routes_json))]
 pub(crate) fn put_routes_member(
     alloc: Global,

@@ -7,7 +7,7 @@ ghost use Rattle.bgp_frame.specs.declared.kind.Kind.TheVariants as kind;
 ghost use Rattle.bgp_msg.specs.declared.outcome.Outcome.TheVariants as outcome;
 ghost use Rattle.bgp_text.specs.Outcome.{reset_name};
 
-/// A reset is printed under the name of what it answers, which its code tells: a header, an OPEN or an UPDATE.
+/// A reset is printed under the name of what causes it, which its code determines: a header, an OPEN or an UPDATE.
 pub fn resets_are_named_for_what_they_answer()
     ensures header { (fault : HeadFault) (n : Notification)
         → of_fault fault ≡ outcome.Reset n → reset_name n.code ≡ codes "HEADER" }

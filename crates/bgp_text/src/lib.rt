@@ -1,4 +1,4 @@
-//! The printed form of messages, routes, notes and ends of streams, as text and as JSON: text alone.
+//! The printed form of messages, routes, notes and ends of streams, as text and as JSON.
 #![tactic(auto)]
 
 mod addresses;

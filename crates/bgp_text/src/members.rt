@@ -44,7 +44,7 @@ pub(crate) trait Form {
         ensures { OnOk result (string_bytes text.new ≡ string_bytes text.old ++ shown.nlri (prefixes_left routes.entry)) };
 }
 
-/// Adds the attribute of a recognised type, where it is there.
+/// Adds the attribute of a recognised type, if it is present.
 #[inline(always)]
 fn put_slot<F: Form>(
     alloc: Global,

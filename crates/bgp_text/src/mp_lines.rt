@@ -47,14 +47,14 @@ pub(crate) fn put_reach(text: &mut String, reach: MpReachView<'_>) -> Result<(),
     }
 }
 
-/// The family of routes that are gone.
+/// The family of withdrawn routes.
 fn put_family(text: &mut String, family: &str) -> Result<(), AllocError>
     ensures { OnOk result (string_bytes text.new ≡ string_bytes text.old ++ family_line family.now) }
 {
     write!(text, "  mp_unreach {family}\n")
 }
 
-/// Adds a family, and its routes that are gone.
+/// Adds a family, and its withdrawn routes.
 #[inline(always)]
 fn put_gone<T: Short, S: Source<Item = T>>(
     text: &mut String,

@@ -1,4 +1,4 @@
-//! The lines of an outcome, while it lies in octets.
+//! The lines of an outcome, while it is borrowed.
 
 ghost use Rattle.std.specs.Prelude.{true, ◌≡◌, ◌≤◌, ◌++◌, length, OnOk};
 ghost use Rattle.bgp_text.specs.Below.{is_ascii, list_all, string_bytes, notification_of_view, open_value, update_value};
@@ -20,7 +20,7 @@ use bgp_open::OpenView;
 use bgp_update::UpdateView;
 use std::alloc::{AllocError, Global};
 
-/// A message's offset in the stream, its octets in number, and what it is, in ASCII.
+/// A message's offset in the stream, its length, and what it is, in ASCII.
 #[inline(always)]
 fn put_head(text: &mut String, place: u64, len: u16, name: &str) -> Result<(), AllocError>
     requires short { length name.now ≤ 20 }
@@ -36,7 +36,7 @@ fn put_head(text: &mut String, place: u64, len: u16, name: &str) -> Result<(), A
     text.push_str(word.text())
 }
 
-/// What a notification of this code answers.
+/// What causes a NOTIFICATION of this code.
 pub(crate) fn reset_name(code: u8) -> &'static str
     ensures { result.now ≡ reset_name code }
 {
@@ -63,7 +63,7 @@ fn put_opened(
     put_open(alloc, text, &open)
 }
 
-/// An UPDATE that is taken, but for its notes.
+/// An accepted UPDATE, without its notes.
 #[tactic(auto, unfolding(crate::specs::Outcome::message_lines))]
 fn put_update(
     alloc: Global,
@@ -78,7 +78,7 @@ fn put_update(
     put_members::<Lines>(alloc, text, view)
 }
 
-/// An UPDATE that is taken.
+/// An accepted UPDATE.
 fn put_taken(
     alloc: Global,
     text: &mut String,
@@ -135,8 +135,8 @@ fn put_answer(
     write!(text, "{place} {len} {name} reset {told}\n")
 }
 
-/// Adds the lines of the outcome of a message, or of the header of one: its offset in the stream, its octets in number (0 for a header's
-/// fault), and what it says. It lies in octets: an outcome that is owned isn't made.
+/// Adds the lines of the outcome of a message, or of the header of one: its offset in the stream, its length (0 for a header's
+/// fault), and its content. The outcome is borrowed, so that no owned one is made.
 ///
 /// # Errors
 /// `AllocError` where an allocation failed.

@@ -10,7 +10,7 @@ use bgp_attr::{PathView, SegKind, SegmentIter, SegmentView};
 use bgp_prefix::AsNumber;
 use std::alloc::AllocError;
 
-/// The word for a kind of segment, behind a space.
+/// The word for a kind of segment, after a space.
 #[inline(always)]
 fn spaced_name(kind: SegKind) -> &'static str
     ensures { result.now ≡ codes " " ++ kind_name kind }
@@ -34,7 +34,7 @@ impl Short for AsNumber {
     }
 }
 
-/// Adds a segment behind a space.
+/// Adds a segment after a space.
 fn put_segment(text: &mut String, segment: &SegmentView<'_>) -> Result<(), AllocError>
     ensures { OnOk result (string_bytes text.new ≡ string_bytes text.old ++ segment_text (segment_value segment.now)) }
 {
@@ -42,7 +42,7 @@ fn put_segment(text: &mut String, segment: &SegmentView<'_>) -> Result<(), Alloc
     put_row(text, segment.numbers)
 }
 
-/// Adds segments, each behind a space.
+/// Adds segments, each after a space.
 fn put_segments(text: &mut String, segments: SegmentIter<'_>) -> Result<(), AllocError>
     ensures { OnOk result (string_bytes text.new ≡ string_bytes text.old ++ flat_map segment_text (segments_left segments.entry)) }
 {
@@ -53,7 +53,7 @@ fn put_segments(text: &mut String, segments: SegmentIter<'_>) -> Result<(), Allo
     Ok(())
 }
 
-/// Adds a path behind a space: a dash where it is empty.
+/// Adds a path after a space: a dash where it is empty.
 #[tactic(auto, unfolding(crate::specs::PathLine::path_text))]
 fn put_path(text: &mut String, path: PathView<'_>) -> Result<(), AllocError>
     ensures { OnOk result (string_bytes text.new ≡ string_bytes text.old ++ path_text (path_value path.entry)) }
@@ -66,7 +66,7 @@ fn put_path(text: &mut String, path: PathView<'_>) -> Result<(), AllocError>
     put_segments(text, segments)
 }
 
-/// Adds the line of a path, behind a label.
+/// Adds the line of a path, after a label.
 #[inline(always)]
 pub(crate) fn put_path_line(
     text: &mut String,

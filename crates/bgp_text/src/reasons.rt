@@ -1,4 +1,4 @@
-//! What was expected where a message is at fault, and at which of an attribute's fields it is.
+//! What was expected where a message is at fault, and which of an attribute's fields is at fault.
 
 ghost use Rattle.std.specs.Prelude.{◌≡◌, ◌+◌};
 ghost use Rattle.bgp_text.specs.Below.{octets_in};
@@ -76,7 +76,7 @@ pub(crate) fn note_wanted(kind: u8, why: Why) -> &'static str
     }
 }
 
-/// What was expected of a header, by the subcode of the answer.
+/// What was expected of a header, by the subcode of the NOTIFICATION.
 #[tactic(auto, unfolding(crate::specs::Reasons::header_wanted))]
 fn header_wanted(subcode: u8) -> &'static str
     ensures { result.now ≡ header_wanted subcode }
@@ -89,7 +89,7 @@ fn header_wanted(subcode: u8) -> &'static str
     }
 }
 
-/// Of an OPEN.
+/// What was expected of an OPEN.
 #[tactic(auto, unfolding(crate::specs::Reasons::open_wanted))]
 fn open_wanted(subcode: u8) -> &'static str
     ensures { result.now ≡ open_wanted subcode }
@@ -104,7 +104,7 @@ fn open_wanted(subcode: u8) -> &'static str
     }
 }
 
-/// Of a message that is answered by a NOTIFICATION with a subcode.
+/// What was expected of a message that causes a NOTIFICATION with a subcode.
 #[tactic(auto, unfolding(crate::specs::Reasons::cause_wanted))]
 pub(crate) fn cause_wanted(cause: Cause, subcode: u8) -> &'static str
     ensures { result.now ≡ cause_wanted cause subcode }
@@ -209,7 +209,7 @@ fn is_value(kind: FieldKind) -> bool
     }
 }
 
-/// Whether an attribute of a type has no segments of this type.
+/// Whether a segment of this type can't be in an attribute of a type.
 fn is_strange(kind: u8, number: u32) -> bool
     ensures { result ≡ is_strange kind number }
 {
@@ -217,7 +217,7 @@ fn is_strange(kind: u8, number: u32) -> bool
     number == 0 || number > most
 }
 
-/// Whether a field of this kind, with these octets, is what is wrong with an attribute of a type.
+/// Whether a field of this kind, with these octets, is the one at fault in an attribute of a type.
 fn is_blamed(why: Why, kind: u8, octets: &[u8], field: FieldKind) -> bool
     ensures { result ≡ is_blamed why kind octets.now field }
 {
@@ -271,14 +271,14 @@ pub(crate) fn is_in(place: u32, group: Option<Group>) -> bool
     }
 }
 
-/// Whether a note has a place, and a field is of its attribute.
+/// Whether a note has an offset, and a field is of its attribute.
 pub(crate) fn is_of(note: &Note, field: &Field) -> bool
     ensures { result ≡ is_of note.now field.now }
 {
     note.at > 0 && is_in(note_place(note), field.group)
 }
 
-/// Whether a note is told at a field of its attribute, of which these are the octets: at what is wrong there, else at the last one.
+/// Whether a note is reported at a field of its attribute, which has these octets: at the one at fault, else at the last one.
 fn is_wrong(message: &[u8], octets: &[u8], note: &Note, field: &Field) -> bool
     requires { octets.now ≡ octets_in message.now field.now }
     ensures { result ≡ is_wrong message.now note.now field.now }
@@ -287,7 +287,7 @@ fn is_wrong(message: &[u8], octets: &[u8], note: &Note, field: &Field) -> bool
         || note_end(message, note) <= u32::from(field.at) + u32::from(field.len)
 }
 
-/// Whether a note is told at a field: such a one, or the first one behind its attribute.
+/// Whether a note is reported at a field: at such a one, or at the first one after its attribute.
 pub(crate) fn is_at(message: &[u8], note: &Note, field: &Field) -> bool
     ensures { result ≡ is_at message.now note.now field.now }
 {

@@ -6,7 +6,7 @@ ghost use Rattle.bgp_text.specs.Sections.{cause_section, note_section, value_sec
 use bgp_attr::Why;
 use bgp_fields::Cause;
 
-/// Where the value of a type of attribute is judged.
+/// The section by which the value of an attribute type is judged.
 #[tactic(auto, unfolding(crate::specs::Sections::value_section))]
 fn value_section(kind: u8) -> &'static str
     ensures { result.now ≡ value_section kind }
@@ -45,7 +45,7 @@ pub fn note_section(kind: u8, why: Why) -> &'static str
     }
 }
 
-/// The section of an RFC by which a message is answered by a NOTIFICATION, or that this is a rule of our own.
+/// The section of an RFC by which a message causes a NOTIFICATION, or that this is a rule of our own.
 #[tactic(auto, unfolding(crate::specs::Sections::cause_section))]
 pub fn cause_section(cause: Cause) -> &'static str
     ensures { result.now ≡ cause_section cause }

@@ -9,17 +9,17 @@ use crate::source::Source;
 use crate::word::Word;
 use std::alloc::AllocError;
 
-/// A value whose text has so few characters that a word holds it.
+/// A value whose text is short enough for a word.
 pub(crate) trait Short: Copy {
     ghost use Rattle.std.specs.Prelude.{ℕ, List, ◌≡◌, ◌+◌, ◌≤◌, ◌++◌, length};
 
     /// Its text.
     ghost text: { Self → List ℕ };
 
-    /// How many characters the text has at most.
+    /// The greatest length of the text.
     ghost most: { ℕ };
 
-    /// Puts its text in front of a word. Two octets more may be written there: a number's digits are written three at a time.
+    /// Writes its text before a word. Two more octets may be overwritten: a number's digits are written three at a time.
     fn put(self, word: &mut Word)
         requires { length word.old + (most + 2) ≤ 72 }
         ensures value { word.new ≡ text self ++ word.old }
@@ -65,7 +65,7 @@ fn put_two<T: Short>(text: &mut String, first: T, second: T) -> Result<(), Alloc
     text.push_str(word.text())
 }
 
-/// Adds values one behind another.
+/// Adds values one after another.
 pub(crate) fn put_row<T: Short, S: Source<Item = T>>(
     text: &mut String,
     values: S,
@@ -83,7 +83,7 @@ pub(crate) fn put_row<T: Short, S: Source<Item = T>>(
     Ok(())
 }
 
-/// Adds a line of a value, behind a label of ASCII.
+/// Adds a line of a value, after a label of ASCII.
 #[inline(always)]
 pub(crate) fn put_line<T: Short>(text: &mut String, label: &str, value: T) -> Result<(), AllocError>
     requires room { length label.now + (T.most + 3) ≤ 72 }
@@ -97,7 +97,7 @@ pub(crate) fn put_line<T: Short>(text: &mut String, label: &str, value: T) -> Re
     text.push_str(word.text())
 }
 
-/// Adds a line of each value, behind a label of ASCII. It is inlined with what calls it, so that a label of a few octets is stored, not copied by
+/// Adds a line of each value, after a label of ASCII. It is inlined, so that a short label is stored, not copied by
 /// a call.
 #[inline(always)]
 pub(crate) fn put_lines<T: Short, S: Source<Item = T>>(

@@ -1,4 +1,4 @@
-//! What a peer says as it shuts a session down (RFC 9003, section 2).
+//! The text of a peer that shuts a session down (RFC 9003, section 2).
 
 ghost use Rattle.std.specs.Prelude.{◌≡◌};
 ghost use Rattle.bgp_text.specs.Shutdown.{counted_text, is_shutdown, shutdown_text};
@@ -6,7 +6,7 @@ ghost use Rattle.bgp_text.specs.Shutdown.{counted_text, is_shutdown, shutdown_te
 use bgp_numbers::error;
 use std::str::from_utf8;
 
-/// The octets behind an octet that counts them.
+/// The octets after their length in one octet.
 fn counted_text(info: &[u8]) -> &[u8]
     ensures { result.now ≡ counted_text info.now }
 {
@@ -16,7 +16,7 @@ fn counted_text(info: &[u8]) -> &[u8]
     }
 }
 
-/// Whether a NOTIFICATION ends a session because an operator wants it.
+/// Whether a NOTIFICATION is one by which an operator ends a session.
 fn is_shutdown(code: u8, subcode: u8) -> bool
     ensures { result ≡ is_shutdown code subcode }
 {
@@ -25,7 +25,7 @@ fn is_shutdown(code: u8, subcode: u8) -> bool
 }
 
 #[tactic(auto, using(crate::proofs::Escapes::is_text, crate::proofs::Escapes::is_no_text))]
-/// The text of a NOTIFICATION that shuts a session down: empty where there is none that is counted right and is UTF-8.
+/// The text of a NOTIFICATION that shuts a session down: empty if its length is wrong or it isn't UTF-8.
 pub(crate) fn shutdown_text(code: u8, subcode: u8, info: &[u8]) -> &str
     ensures { result.now ≡ shutdown_text code subcode info.now }
 {

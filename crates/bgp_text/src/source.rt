@@ -1,17 +1,17 @@
-//! Values that come one after another, from a list or from octets.
+//! Values in sequence, from a list or from octets.
 
 use bgp_attr::{AsNumberIter, CommIter, LargeCommIter};
 use bgp_prefix::{AsNumber, Prefix, PrefixIter};
 use bgp_update::{Note, NoteIter};
 
-/// Values that come one after another: those of a list, or those that octets hold. What is printed of both goes by one loop.
+/// Values in sequence: those of a list, or those read from octets. One loop prints either.
 pub(crate) trait Source: Copy {
     ghost use Rattle.std.specs.Prelude.{List};
     ghost use Rattle.std.specs.Iterator.{YieldsFirst};
 
     type Item;
 
-    /// Those still to come.
+    /// Those that are left.
     ghost left: { Self → List Self.Item };
 
     /// The next one.

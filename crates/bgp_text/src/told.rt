@@ -1,4 +1,4 @@
-//! What is told of each field of a message: its mark, and what is wrong there.
+//! What is reported at each field of a message: a mark, and what is wrong there.
 
 ghost use Rattle.std.specs.Prelude.{◌≡◌, ◌∷◌, List, Some};
 ghost use Rattle.bgp_text.specs.Below.{Field as FieldValue, notes_left, fields_left};
@@ -15,24 +15,24 @@ use std::alloc::Global;
 /// What is wrong at a field.
 #[derive(Clone, Copy)]
 pub(crate) enum Wrong {
-    /// Nothing that is told there.
+    /// Nothing is reported there.
     Nothing,
-    /// What a note is on.
+    /// The subject of a note.
     Noted(Note),
-    /// What the message is answered for: the code and the subcode of the NOTIFICATION, and the test that failed.
+    /// The cause of a NOTIFICATION: its code and subcode, and the test that failed.
     Answered(u8, u8, Cause),
 }
 
-/// What is told of a field.
+/// What is reported at a field.
 #[derive(Clone, Copy)]
 pub(crate) struct Told {
     pub(crate) field: Field,
-    /// It is of an attribute that a note is on, or of the octets that the message is answered for.
+    /// Whether it is of an attribute with a note, or of the octets that cause a NOTIFICATION.
     pub(crate) marked: bool,
     pub(crate) wrong: Wrong,
 }
 
-/// That in a message.
+/// The same, in a message.
 #[derive(Clone, Copy)]
 pub(crate) struct Shown<'a> {
     pub(crate) alloc: Global,
@@ -41,7 +41,7 @@ pub(crate) struct Shown<'a> {
 }
 
 impl<'a> Noting<'a> {
-    /// What is told of the next field.
+    /// What is reported at the next field.
     #[tactic(auto, using(crate::proofs::ToldFields::tell_none, crate::proofs::ToldFields::tell_note, crate::proofs::ToldFields::leave_none, crate::proofs::ToldFields::leave_note))]
     fn tell(&mut self, message: &[u8], field: &Field) -> Told
         ensures fields { (fields : List FieldValue) → noting_fields message.now self.old (field.now ∷ fields) ≡ result ∷ noting_fields message.now self.new fields }
@@ -67,7 +67,7 @@ impl<'a> Noting<'a> {
     }
 }
 
-/// The notes that are told at none of the fields, the next one taken out.
+/// The notes that are reported at none of the fields, the next one removed.
 #[tactic(auto, using(crate::proofs::ToldFields::all_left))]
 pub(crate) fn behind_fields<'a>(
     message: &[u8],
@@ -113,7 +113,7 @@ impl<'a> Source for NotedFields<'a> {
     }
 }
 
-/// What is told of a field of a message without notes.
+/// What is reported at a field of a message without notes.
 fn plain_field(field: Field) -> Told
     ensures { result ≡ plain_field field }
 {
@@ -151,7 +151,7 @@ impl<'a> Source for PlainFields<'a> {
     }
 }
 
-/// What is told of a field of a message that is answered for a fault.
+/// What is reported at a field of a message with a fault.
 fn blamed_field(fault: &Fault, code: u8, subcode: u8, field: Field) -> Told
     ensures { result ≡ faulty_field (Some fault.now) code subcode field }
 {
@@ -166,7 +166,7 @@ fn blamed_field(fault: &Fault, code: u8, subcode: u8, field: Field) -> Told
     }
 }
 
-/// What is told of a field of a message that is answered by a NOTIFICATION.
+/// What is reported at a field of a message that causes a NOTIFICATION.
 fn faulty_field(fault: &Option<Fault>, code: u8, subcode: u8, field: Field) -> Told
     ensures { result ≡ faulty_field fault.now code subcode field }
 {
@@ -180,7 +180,7 @@ fn faulty_field(fault: &Option<Fault>, code: u8, subcode: u8, field: Field) -> T
     }
 }
 
-/// The fields of a message that is answered by a NOTIFICATION of this code and subcode.
+/// The fields of a message that causes a NOTIFICATION of this code and subcode.
 #[derive(Clone, Copy)]
 pub(crate) struct FaultyFields<'a> {
     pub(crate) alloc: Global,

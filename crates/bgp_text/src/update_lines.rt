@@ -1,4 +1,4 @@
-//! The lines of an UPDATE, and of routes that are withdrawn.
+//! The lines of an UPDATE, and of withdrawn routes.
 
 ghost use Rattle.std.specs.Prelude.{◌≡◌, ◌++◌, option_map, codes, OnOk};
 ghost use Rattle.bgp_text.specs.Below.{flat_map, string_bytes, reach_value, unreach_value, ipv4_text, ipv6_text};
@@ -88,7 +88,7 @@ fn put_ip6_routes(
     Ok(())
 }
 
-/// Adds a line for each route that is withdrawn.
+/// Adds a line for each withdrawn route.
 pub(crate) fn put_routes(text: &mut String, view: &UpdateView<'_>) -> Result<(), AllocError>
     ensures { OnOk result (string_bytes text.new ≡ string_bytes text.old ++ routes_lines (routes_value view.now)) }
 {

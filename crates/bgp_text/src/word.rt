@@ -1,4 +1,4 @@
-//! A short text that is made on the stack.
+//! A short text on the stack.
 
 ghost use Rattle.std.specs.Prelude.{true, false, ◌≡◌, ◌+◌, ◌≤◌, ◌<◌, ◌∷◌, ◌++◌, [], length, drop};
 ghost use Rattle.bgp_text.specs.Below.{is_ascii, decimal, digit_glyph, list_all, hex_octet};
@@ -7,7 +7,7 @@ use crate::decimal::write_digits;
 use crate::digits::Digits;
 use std::marker::Model;
 
-/// At most 72 ASCII characters, written from the last to the first, so that they are added to a text in one go.
+/// At most 72 ASCII characters, written from the last to the first, so that they are appended to a text in one call.
 #[derive(Drop)]
 pub(crate) struct Word {
     octets: [u8; 72],
@@ -47,7 +47,7 @@ fn write_hex(octet: u8, octets: &mut [u8; 72], at: usize)
     octets[at + 1] = digit(octet % 16);
 }
 
-/// Writes a number's digits so that they end at `end`, with a mark in front of them, and returns where the mark stands.
+/// Writes a number's digits so that they end at `end`, with a mark before them, and returns where the mark is.
 #[inline(always)]
 fn write_marked(mark: u8, number: u64, octets: &mut [u8; 72], end: usize) -> usize
     requires { (length (decimal number) + 2 ≤ end) × (end ≤ 72) }
@@ -72,7 +72,7 @@ fn write_label(label: &str, octets: &mut [u8; 72], end: usize) -> usize
 }
 
 impl Word {
-    /// No characters.
+    /// An empty word.
     #[inline]
     pub(crate) fn new() -> Word
         ensures { result ≡ [] }
@@ -83,7 +83,7 @@ impl Word {
         }
     }
 
-    /// Puts a number's digits in front.
+    /// Writes a number's digits before it.
     #[inline(always)]
     pub(crate) fn number<N: Digits>(&mut self, number: N)
         requires { length self.old + (N.most + 2) ≤ 72 }
@@ -94,7 +94,7 @@ impl Word {
         self.at = write_digits(number.wide(), &mut self.octets, end);
     }
 
-    /// Puts a character in front.
+    /// Writes a character before it.
     #[inline]
     pub(crate) fn character(&mut self, character: u8)
         requires room { length self.old < 72 }
@@ -105,7 +105,7 @@ impl Word {
         self.octets[self.at] = character;
     }
 
-    /// Puts a mark in front, with a number behind it.
+    /// Writes a mark, and a number after that, before it.
     #[inline(always)]
     pub(crate) fn marked<N: Digits>(&mut self, mark: u8, number: N)
         requires room { length self.old + (N.most + 2) ≤ 72 }
@@ -117,7 +117,7 @@ impl Word {
         self.at = write_marked(mark, number.wide(), &mut self.octets, end);
     }
 
-    /// Puts a label in front.
+    /// Writes a label before it.
     #[inline(always)]
     pub(crate) fn label(&mut self, label: &str)
         requires room { length self.old + length label.now ≤ 72 }
@@ -128,7 +128,7 @@ impl Word {
         self.at = write_label(label, &mut self.octets, end);
     }
 
-    /// Puts an octet's two hexadecimal digits in front.
+    /// Writes an octet's two hexadecimal digits before it.
     #[inline]
     pub(crate) fn hex_octet(&mut self, octet: u8)
         requires { length self.old + 2 ≤ 72 }
@@ -139,7 +139,7 @@ impl Word {
         self.character(digit(octet / 16));
     }
 
-    /// Puts the four hexadecimal digits of two octets in front.
+    /// Writes the four hexadecimal digits of two octets before it.
     #[inline(always)]
     pub(crate) fn hex_pair(&mut self, high: u8, low: u8)
         requires { length self.old + 4 ≤ 72 }

@@ -5,7 +5,7 @@ use Rattle.bgp_wire.specs.Prelude.{AreOctets, ◌>>=◌}
 use Rattle.bgp_wire.proofs.OctetLemmas.{AreOctets-front, AreOctets-back}
 use Rattle.bgp_update.specs.Prelude.{body_octets, Parts, IsBody, behind_two, parts_of}
 
--- ---- a row behind its length in two octets
+-- ---- a row after its length in two octets
 
 abbrev found : List ℕ × List ℕ → Option (List ℕ × List ℕ)
 found p = Some p
@@ -24,7 +24,7 @@ finds_at high low row back e =
 pub behind_two-finds : (row back : List ℕ) → length row < 2 ^ 16 → behind_two (to_be_bytes w16 (length row) ++ (row ++ back)) ≡ Some (row, back)
 behind_two-finds row back small = finds_at (byte_at 1 (length row)) (byte_at 0 (length row)) row back (from_be_bytes-to_be_bytes_2 (length row) small)
 
--- what was found stands there
+-- what was found is at the front
 pub record IsBehindTwo (row back b : List ℕ) : Type 0 where
   pub octets : b ≡ to_be_bytes w16 (length row) ++ (row ++ back)
   pub fits : length row < 2 ^ 16
@@ -32,7 +32,7 @@ pub record IsBehindTwo (row back b : List ℕ) : Type 0 where
 two_small : (b : List ℕ) → AreOctets b → from_be_bytes w16 b < 2 ^ 16
 two_small b octets = omega (arith, octets 0, octets 1)
 
--- octets behind two of them
+-- octets after the first two
 gives_at : (high low : ℕ) (b row back : List ℕ) (t : Bool) → AreOctets (high ∷ low ∷ b) → leb (from_be_bytes w16 (high ∷ low ∷ [])) (length b) ≡ t
     → cond t (found (take (from_be_bytes w16 (high ∷ low ∷ [])) b, drop (from_be_bytes w16 (high ∷ low ∷ [])) b)) None ≡ Some (row, back) → IsBehindTwo row back (high ∷ low ∷ b)
 gives_at high low b row back true octets fits e =
@@ -55,7 +55,7 @@ behind_two-gives (high ∷ low ∷ b) row back octets e = gives_at high low b ro
 
 -- ---- the parts
 
--- the parts behind Withdrawn Routes, and behind nothing
+-- the parts after Withdrawn Routes, and after nothing
 abbrev pub with_attributes : List ℕ → Option (List ℕ × List ℕ) → Option Parts
 with_attributes withdrawn o = do
   attributes ← o

@@ -1,4 +1,4 @@
--- Which tests attributes fail, one attribute more.
+-- Which tests attributes fail, with one more attribute.
 use Rattle.bgp_wire.proofs.Std.{◌≡◌, Bool, true, false, not, ◌||◌, ◌&&◌, List, [], ◌∷◌, ◌++◌, Option, Some, None, refl, sym, ap, ap₂, ◌∙◌, cond-true, cond-false, list_any, list_any-append}
 use Rattle.std.specs.Prelude.{is_some}
 use Rattle.std.proofs.lemmas.List.{append-nil}
@@ -23,7 +23,7 @@ pub failed_more : (ctx : Context) (xs : List Attr) (x : Attr) → failed_by ctx 
 failed_more ctx xs x =
     rw (any-push (is_too_wide ctx) xs x, any-push is_as4 xs x, any-push (is_out_of_place ctx) xs x, any-push is_empty xs x, any-push has_as_zero xs x, any-push stands_twice xs x) refl
 
--- with the attributes of one type more
+-- with the attributes of one more type
 module _ (ctx : Context) (xs ys all : List Attr) (are : all ≡ xs ++ ys) where
   pub with_one : (x : Attr) → x ∷ [] ≡ ys → also_failed (failed_by ctx xs) ctx x ≡ failed_by ctx all
   with_one x e = sym (ap (failed_by ctx) (are ∙ ap (λ (zs : List Attr). xs ++ zs) (sym e)) ∙ failed_more ctx xs x)
@@ -60,7 +60,7 @@ not_refused : (test : Bool) (why : Invalid) (later : Option Invalid) → refused
 not_refused true why later e = absurd cc
 not_refused false why later e = (refl, e)
 
--- where no reason is left, the attributes of other types are good
+-- where no reason is left, the attributes of unrecognised types are good
 pub others_good : (f : Failed) (as4 bad : Bool) → first_of f as4 bad ≡ None → bad ≡ false
 others_good f as4 bad e =
     let wide = not_refused f.too_wide invalid.AsWidth _ e in

@@ -1,4 +1,4 @@
--- Attributes of unrecognised types, without some types: each other type is found as it was.
+-- Attributes of unrecognised types without some types: each other type is found as before.
 use Rattle.bgp_wire.proofs.Std.{◌≡◌, ℕ, Bool, true, false, not, cond, eqb, List, [], ◌∷◌, Option, Some, None, refl, sym, ap, ◌∙◌, filter, find, both_ways}
 use Rattle.std.proofs.lemmas.Bool.{eqb-true}
 use Rattle.bgp_attr.specs.declared.opaque.Opaque.{Opaque}

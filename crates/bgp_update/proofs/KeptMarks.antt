@@ -1,4 +1,4 @@
--- What marks keep of a field: attributes that can be written, no type twice, in no more octets; and those that a message has to have.
+-- What the marks of a field keep: attributes that can be written, no type twice, in no more octets; and those that are mandatory in a message.
 use Rattle.bgp_wire.proofs.Std.{◌≡◌, ℕ, ◌+◌, ◌≤◌, Bool, true, false, not, ◌||◌, cond, eqb, List, [], ◌∷◌, ◌++◌, length, map, Option, Some, None, refl, sym, ap, subst, ◌∙◌, arith, flat_map, list_any, AllByRecursion, option_or, false≢true, or_parts, or_from, or_left, or_right, flat_map-append, list_any-append}
 use Rattle.std.specs.Prelude.{option_map}
 use Rattle.std.proofs.lemmas.Bool.{true≢false, eqb-true, eq-eqb}
@@ -22,9 +22,9 @@ use Rattle.bgp_update.proofs.Rising.{NoneTwice}
 use Rattle.bgp_update.proofs.TypeLemmas.{fresh-fewer}
 use Rattle.bgp_update.proofs.MarkLemmas.{IsReady}
 
--- ---- what no row drops
+-- ---- what no row discards
 
--- the answer, where there is one, is more than to drop the attribute
+-- the answer, where there is one, isn't to discard the attribute
 abbrev IsSevere : Option Judged → Type 0
 IsSevere (Some (judged.Discard w)) = ⊥
 IsSevere _ = Unit {0}
@@ -47,7 +47,7 @@ decided-severe (None ∷ tests) x w all e = decided-severe tests x w all.1 e
 decided-severe (Some j ∷ tests) x w all e = subst (λ (k : Judged). IsSevere (Some k)) e all.0
 
 module _ (ctx : Context) (has_nlri : Bool) where
-  -- an attribute of this type is never dropped
+  -- an attribute of this type is never discarded
   abbrev pub NotDropped : ℕ → Type 0
   NotDropped kind = (t : TlvValue) → t.kind ≡ kind → (w : Why) → judgement ctx has_nlri t ≡ judged.Discard w → ⊥
 
@@ -63,7 +63,7 @@ module _ (ctx : Context) (has_nlri : Bool) where
   pub next_hop-not_dropped : has_nlri ≡ true → NotDropped NEXT_HOP
   next_hop-not_dropped given t e = never t _ (row-at ctx has_nlri t NEXT_HOP e) (needed-severe has_nlri given, (when-severe _ _, (when-severe _ _, tt)))
 
--- ---- marks that let a message be taken
+-- ---- marks of a message that is accepted
 
 pub record GoesOn (j : Judged) : Type 0 where
   pub no_reset : reset_by j ≡ None
@@ -84,7 +84,7 @@ cut-by : (b : Bool) → kept_by (cond b (judged.Reset malformed) (judged.Withdra
 cut-by true = refl
 cut-by false = refl
 
--- nothing is kept of what is cut off
+-- nothing is kept of an attribute that is cut off
 pub cut-kept : (at : ℕ) (rest : List ℕ) → kept_of (cut_mark at rest) ≡ []
 cut-kept at [] = refl
 cut-kept at (flags ∷ rest) = ap (λ (xs : List Attr). xs ++ []) (cut-by _)
@@ -100,7 +100,7 @@ repeated-by false = refl
 repeated-kept : (kind : ℕ) → kept_by (repeated kind) ≡ []
 repeated-kept kind = repeated-by (carries_routes kind)
 
--- what is kept of a row of n octets, behind attributes of these types
+-- what is kept of a row of n octets, after attributes of these types
 pub record IsKept (ctx : Context) (has_nlri : Bool) (seen : ℕ → Bool) (xs : List Attr) (n : ℕ) : Type 0 where
   pub ready : AllByRecursion (IsReady ctx has_nlri) xs
   pub shorter : length (flat_map (canonical ctx) xs) ≤ n
@@ -141,7 +141,7 @@ module _ (ctx : Context) (has_nlri : Bool) where
       (one-more t spelled.0 seen (kept_of (marks_behind ctx has_nlri (also t.kind seen) (placed_from (at + length t.whole) ts))) (length spelled.1) spelled.3 (AreOctets-front spelled.0 spelled.1 joined)
       (seen t.kind) refl (judgement ctx has_nlri t) refl more)
 
-  -- ---- an attribute that is never dropped is kept where it stands
+  -- ---- an attribute that is never discarded is kept where it is
 
   module _ (kind : ℕ) (stays : NotDropped ctx has_nlri kind) where
     abbrev among : List Attr → Bool

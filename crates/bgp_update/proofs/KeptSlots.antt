@@ -23,7 +23,7 @@ opaques-all P Q each (x ∷ xs) all = all-append Q (as_opaque x) (flat_map as_op
     one (attr.Opaque o) p = (each o p, tt)
     one _ p = tt
 
--- their types are among those of all
+-- their types are among those of all attributes
 opaques-by : (x : Attr) (os : List Opaque) (seen : ℕ → Bool) → seen (type_of x) ≡ false → NoneTwice (also (type_of x) seen) (kinds os) → NoneTwice seen (kinds (as_opaque x ++ os))
 opaques-by (attr.Opaque o) os seen new fresh = (new, fresh)
 opaques-by x os seen new fresh = fresh-fewer (also (type_of x) seen) seen (kinds os) (λ k e. (or_parts (eqb k (type_of x)) (seen k) e).1) fresh
@@ -54,7 +54,7 @@ others_of-kept kept = refl
 
 -- ---- the slots
 
--- an attribute of a recognised type is one that has it
+-- an attribute of a recognised type is one that has this type
 has-type : (k : ℕ) → is_recognised k ≡ true → (x : Attr) → is_misnamed x ≡ false → is_of k x ≡ eqb (type_of x) k
 has-type k known (attr.Opaque o) named = sym (other_kind o.kind k known named)
 has-type k known _ named = refl
@@ -85,7 +85,7 @@ module _ (xs : List Attr) (named : Named xs) (fresh : NoneTwice none_of_them (ma
   pub kept-list : attr_list (attrs_of xs) ≡ flat_map (λ k. first_of_type k xs) canonical_order
   kept-list = flat_map-same (slot (attrs_of xs)) (λ k. first_of_type k xs) canonical_order slot-kept
 
-  -- what holds of each that was kept holds of each of these
+  -- what holds of each that was kept holds of each attribute by type
   pub kept-all : (P : Attr → Type 0) → AllByRecursion P xs → AllByRecursion P (attr_list (attrs_of xs))
   kept-all P all = subst (λ (ys : List Attr). AllByRecursion P ys) (sym kept-list) (all-flat_map P (λ k. first_of_type k xs) canonical_order (λ k. first-all k xs all))
     where
@@ -97,7 +97,7 @@ module _ (xs : List Attr) (named : Named xs) (fresh : NoneTwice none_of_them (ma
       first-all k [] all = tt
       first-all k (y ∷ ys) all = first-by y (find (λ x. eqb (type_of x) k) ys) (eqb (type_of y) k) all.0 (first-all k ys all.1)
 
-  -- the unrecognised ones rise, and are unrecognised
+  -- the unrecognised ones are in ascending order, and are unrecognised
   pub kept-others : has_bad_others (attrs_of xs).others ≡ false
   unfolding attrs_from
   kept-others =

@@ -1,4 +1,4 @@
--- Attributes that are kept one after another are those of the whole.
+-- Attributes kept one after another are those kept of the whole.
 use Rattle.bgp_wire.proofs.Std.{◌≡◌, ℕ, Bool, true, false, ◌||◌, ◌&&◌, not, eqb, List, [], ◌++◌, Option, refl, sym, ap, ◌∙◌, flat_map, list_any, find-append, list_any-append, option_or}
 use Rattle.bgp_attr.specs.declared.attr.Attr.{Attr}
 use Rattle.bgp_attr.specs.declared.opaque.Opaque.{Opaque}
@@ -19,7 +19,7 @@ or-assoc : (a b c : Bool) → ((a || b) || c) ≡ (a || (b || c))
 or-assoc true b c = refl
 or-assoc false b c = refl
 
--- behind none, they are those of the whole
+-- starting from none, they are those of the whole
 pub kept_whole : (kept : List Attr) → kept_behind (kept_in []) kept ≡ kept_in kept
 kept_whole kept = refl
 

@@ -1,10 +1,10 @@
--- The two length fields of a body, set when their parts are there.
+-- The two length fields of a body, set when its parts are written.
 use Rattle.bgp_wire.proofs.Std.{◌≡◌, ℕ, ◌+◌, ◌-◌, ◌≤◌, List, ◌∷◌, ◌++◌, length, take, drop, sym, ap, ap₂, ◌∙◌, append_assoc, arith, w16, to_be_bytes, take-append_seam, drop-append-add}
 use Rattle.std.proofs.lemmas.List.{length-append}
 use Rattle.bgp_update.specs.declared.laying.Places.{Places}
 use Rattle.bgp_update.specs.Prelude.{body_octets, LaysOut}
 
--- a number in the room for it
+-- a number written into the room for it
 set_in : (at len : ℕ) (front back l new : List ℕ) → at ≡ length front → l ≡ front ++ 0 ∷ 0 ∷ back → new ≡ take at l ++ (to_be_bytes w16 len ++ drop (at + 2) l)
     → new ≡ front ++ (to_be_bytes w16 len ++ back)
 set_in at len front back l new at_is l_is set =
@@ -29,7 +29,7 @@ both_set w a n old start first second p there mid new laid first_is second_is se
     ∙ ap (λ (x : List ℕ). old ++ x) (append_assoc (to_be_bytes w16 first) w (to_be_bytes w16 second ++ (a ++ n)))
     ∙ ap₂ (λ (k m : ℕ). old ++ (to_be_bytes w16 k ++ (w ++ (to_be_bytes w16 m ++ (a ++ n))))) one two
 
--- the third part lies within
+-- the third part is within the body
 pub third_within : (withdrawn attributes nlri : List ℕ) (start : ℕ) (old new : List ℕ) (p : Places) → LaysOut withdrawn attributes nlri start old new p → p.nlri ≤ length new
 third_within w a n start old new p laid =
     omega (arith, ap length laid.whole, length-append old (0 ∷ 0 ∷ (w ++ (0 ∷ 0 ∷ (a ++ n)))), length-append w (0 ∷ 0 ∷ (a ++ n)), length-append a n, laid.first, laid.second, laid.third)

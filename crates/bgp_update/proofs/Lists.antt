@@ -22,7 +22,7 @@ module _ {A : Type 0} where
       let p = or_parts (test x) (list_any test xs) e in
       ap (λ (t : Bool). cond t (Some x) (find test xs)) p.0 ∙ find-none test xs p.1
 
-  -- what was found passes, and has what each element has
+  -- an element that is found passes the test, and has what each element has
   find-by : (test : A → Bool) (x y : A) (xs : List A) (t : Bool) → test x ≡ t → (find test xs ≡ Some y → test y ≡ true) → cond t (Some x) (find test xs) ≡ Some y → test y ≡ true
   find-by test x y xs true e later f = let same : x ≡ y = cc in ap test (sym same) ∙ e
   find-by test x y xs false e later f = later f
@@ -39,7 +39,7 @@ module _ {A : Type 0} where
       by true later = refl
       by false later = later
 
-  -- two tests that agree find the same
+  -- two tests that agree find the same element
   pub find-same : (test other : A → Bool) (xs : List A) → AllByRecursion (λ x. test x ≡ other x) xs → find test xs ≡ find other xs
   find-same test other [] same = refl
   find-same test other (x ∷ xs) same = ap₂ (λ (t : Bool) (o : Option A). cond t (Some x) o) same.0 (find-same test other xs same.1)
@@ -85,7 +85,7 @@ module _ {A B : Type 0} where
   flat_map-none f [] none = refl
   flat_map-none f (x ∷ xs) none = ap₂ (λ (a b : List B). a ++ b) (none x) (flat_map-none f xs none)
 
-  -- what gives nothing can be filtered out
+  -- elements that yield nothing can be filtered out
   filter-by : (f : A → List B) (test : A → Bool) (x : A) (xs : List A) (t : Bool) → test x ≡ t → (t ≡ false → f x ≡ []) → flat_map f (filter test xs) ≡ flat_map f xs
       → flat_map f (cond t (x ∷ filter test xs) (filter test xs)) ≡ f x ++ flat_map f xs
   filter-by f test x xs true e none later = ap (λ (b : List B). f x ++ b) later
@@ -99,10 +99,10 @@ module _ {A B : Type 0} where
   all-flat_map P f [] each = tt
   all-flat_map P f (x ∷ xs) each = all-append P (f x) (flat_map f xs) (each x) (all-flat_map P f xs each)
 
--- ---- lists by number, one behind another
+-- ---- lists by number, one after another
 
 module _ {A : Type 0} where
-  -- what holds of all holds of those of one number
+  -- what holds of all elements holds of those of one number
   pub all-among : (P : A → Type 0) (f : ℕ → List A) (kind : ℕ) (ks : List ℕ) → list_any (λ k. eqb k kind) ks ≡ true → AllByRecursion P (flat_map f ks) → AllByRecursion P (f kind)
   all-among P f kind [] e all = absurd (false≢true e)
   all-among P f kind (k ∷ ks) e all = elim (or_cases (eqb k kind) (list_any (λ j. eqb j kind) ks) e) [
@@ -110,13 +110,13 @@ module _ {A : Type 0} where
     | inr later ↦ all-among P f kind ks later (all-back P (f k) (flat_map f ks) all)
   ]
 
-  -- what goes from those of each number to those of the same in another goes from all to all
+  -- what carries over from the elements of each number to those of the same number in another list carries over from all to all
   pub all-carried : (P Q : A → Type 0) (f g : ℕ → List A) (ks : List ℕ) → ((k : ℕ) → AllByRecursion P (f k) → AllByRecursion Q (g k)) → AllByRecursion P (flat_map f ks) → AllByRecursion Q (flat_map g ks)
   all-carried P Q f g [] each all = tt
   all-carried P Q f g (k ∷ ks) each all =
       all-append Q (g k) (flat_map g ks) (each k (all-front P (f k) (flat_map f ks) all)) (all-carried P Q f g ks each (all-back P (f k) (flat_map f ks) all))
 
-  -- where none of another number passes, what is found is found among those of the number
+  -- where none of another number passes, an element that is found is found among those of the number
   pub find-among : (test : A → Bool) (f : ℕ → List A) (kind : ℕ) (ks : List ℕ) → ((k : ℕ) → eqb k kind ≡ false → find test (f k) ≡ None)
       → find test (flat_map f ks) ≡ cond (list_any (λ k. eqb k kind) ks) (find test (f kind)) None
   find-among test f kind [] apart = refl
@@ -132,7 +132,7 @@ module _ {A : Type 0} where
       by true e b = ap (λ (j : ℕ). option_or (find test (f j)) (cond b (find test (f kind)) None)) (eqb-true k kind e) ∙ twice (find test (f kind)) b
       by false e b = ap (λ (o : Option A). option_or o (cond b (find test (f kind)) None)) (apart k e)
 
--- what is made of each of those so far, with one more, and of all
+-- the results of those so far, with one more, and of all
 module _ {X Y : Type 0} (f : X → Y) (xs : List X) (i : ℕ) where
   pub one_mapped : (x : X) (y : Y) (now new : List Y) → i < length xs → x ≡ get_or xs i x → y ≡ f x → now ≡ map f (take i xs) → new ≡ now ++ y ∷ [] → new ≡ map f (take (i + 1) xs)
   one_mapped x y now new lt is made so_far more =
@@ -142,7 +142,7 @@ module _ {X Y : Type 0} (f : X → Y) (xs : List X) (i : ℕ) where
   pub all_mapped : (now : List Y) → length xs ≤ i → now ≡ map f (take i xs) → now ≡ map f xs
   all_mapped now le so_far = so_far ∙ ap (map f) (take_all i xs le)
 
--- what is there and what is left, one more and none more
+-- what is collected and what is left, with one more and with no more
 module _ {X : Type 0} (now left whole : List X) (so_far : now ++ left ≡ whole) where
   pub one_taken : (x : X) (later new : List X) → left ≡ x ∷ later → new ≡ now ++ x ∷ [] → new ++ later ≡ whole
   one_taken x later new are more = ap (λ (b : List X). b ++ later) more ∙ append_assoc now (x ∷ []) later ∙ ap (λ (b : List X). now ++ b) (sym are) ∙ so_far

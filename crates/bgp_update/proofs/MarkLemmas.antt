@@ -1,4 +1,4 @@
--- Marks of which each keeps its attribute, and of attributes of which no type stands twice.
+-- Marks that each keep their attribute, and attributes of distinct types.
 use Rattle.bgp_wire.proofs.Std.{◌≡◌, ℕ, ◌+◌, ◌-◌, ◌≤◌, Bool, true, false, eqb, List, [], ◌∷◌, ◌++◌, length, map, None, refl, sym, ap, ap₂, subst, ◌∙◌, arith, flat_map, list_any, AllByRecursion, option_or, cond-false, or_parts, or_from}
 use Rattle.std.proofs.lemmas.List.{append-nil}
 use Rattle.bgp_wire.specs.Prelude.{Row, also, none_of_them}
@@ -15,7 +15,7 @@ use Rattle.bgp_update.specs.Prelude.{Mark, repeated, marks_behind, cut_mark, fie
 use Rattle.bgp_update.proofs.Rising.{NoneTwice}
 use Rattle.bgp_update.proofs.TypeLemmas.{fresh-fewer, OfType}
 
--- ---- marks that keep
+-- ---- marks that keep their attributes
 
 -- the marks keep these attributes, one each
 abbrev pub KeepsAll : List Mark → List Attr → Type 0
@@ -50,7 +50,7 @@ keeps-no_note at (m ∷ ms) [] all = absurd all
 
 -- ---- written attributes
 
--- what makes a written attribute one that is kept
+-- what a written attribute needs to be kept
 pub record IsReady (ctx : Context) (has_nlri : Bool) (x : Attr) : Type 0 where
   pub writable : is_writable ctx x ≡ true
   pub in_place : Belongs ctx has_nlri x
@@ -86,7 +86,7 @@ module _ (ctx : Context) (has_nlri : Bool) where
       let is : from (tlvs_of field) ≡ marks = ap from (written-tlvs xs ready) ∙ append-nil marks in
       subst (λ (ms : List Mark). KeepsAll ms xs) (sym is) (written-keep xs 0 none_of_them ready fresh)
 
--- ---- no type twice
+-- ---- distinct types
 
 few-by : (k : ℕ) (seen : ℕ → Bool) (xs ys : List Attr) → OfType k xs → length xs ≤ 1 → seen k ≡ false → NoneTwice (also k seen) (map type_of ys) → NoneTwice seen (map type_of (xs ++ ys))
 few-by k seen [] ys of_type few new fresh = fresh-fewer (also k seen) seen (map type_of ys) (λ j e. (or_parts (eqb j k) (seen j) e).1) fresh
@@ -94,7 +94,7 @@ few-by k seen (x ∷ []) ys of_type few new fresh =
     subst (λ (j : ℕ). (seen j ≡ false) × NoneTwice (also j seen) (map type_of ys)) (sym of_type.0) (new, fresh)
 few-by k seen (x ∷ y ∷ xs) ys of_type few new fresh = absurd (omega arith)
 
--- at most one attribute of each type, one type after the other
+-- at most one attribute of each type, in the order of the types
 pub slots-fresh : (slots : ℕ → List Attr) → ((k : ℕ) → OfType k (slots k)) → ((k : ℕ) → length (slots k) ≤ 1) → (ks : List ℕ) (seen : ℕ → Bool) → NoneTwice seen ks → NoneTwice seen (map type_of (flat_map slots ks))
 slots-fresh slots of_type few [] seen fresh = tt
 slots-fresh slots of_type few (k ∷ ks) seen fresh = few-by k seen (slots k) (flat_map slots ks) (of_type k) (few k) fresh.0 (slots-fresh slots of_type few ks (also k seen) fresh.1)

@@ -1,4 +1,4 @@
--- The types that were seen, mark by mark.
+-- The types seen, mark by mark.
 use Rattle.bgp_wire.proofs.Std.{◌≡◌, ℕ, Bool, true, false, ◌||◌, cond, eqb, List, ◌∷◌, refl, sym, ap, ◌∙◌, list_any}
 use Rattle.std.proofs.lemmas.Bool.{eqb-true}
 use Rattle.bgp_attr.specs.Prelude.{PlacedTlv}
@@ -14,7 +14,7 @@ or_past false false c = refl
 abbrev has_kind : ℕ → List PlacedTlv → Bool
 has_kind kind ps = list_any (λ p. eqb p.tlv.kind kind) ps
 
--- the type of one more attribute is seen, in place of still to come
+-- the type of the next attribute counts as seen, no longer as ahead
 pub types_step : (seen now : ℕ → Bool) (p : PlacedTlv) (left later : List PlacedTlv) (types : ℕ → Bool)
     → now ≡ also p.tlv.kind seen → left ≡ p ∷ later
     → ((kind : ℕ) → (seen kind || has_kind kind left) ≡ types kind)
@@ -26,13 +26,13 @@ types_step seen now p left later types is_now is_left has kind =
     ∙ ap (λ (ps : List PlacedTlv). seen kind || has_kind kind ps) (sym is_left)
     ∙ has kind
 
--- of types that are told apart, one more of either sort
+-- one more of either sort, where types are of two sorts
 module _ (is : ℕ → Bool) where
   abbrev pub joined : (ℕ → Bool) → (ℕ → Bool) → ℕ → Bool
   joined a b = λ k. cond (is k) (a k) (b k)
 
   module _ (these others : ℕ → Bool) (kind : ℕ) where
-    -- a type of the other sort is another
+    -- a type of the other sort differs
     apart : (b : Bool) → is kind ≡ b → (k : ℕ) (c : Bool) → is k ≡ c → (set : ℕ → Bool) → (b ≡ c → ⊥) → set k ≡ also kind set k
     apart b e k c f set differ = by (eqb k kind) refl
       where

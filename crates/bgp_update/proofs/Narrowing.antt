@@ -1,4 +1,4 @@
--- What a speaker with AS numbers of two octets is told gives the path and the aggregator back.
+-- What is sent to a 2-octet-AS peer gives back the path and the aggregator.
 use Rattle.bgp_wire.proofs.Std.{◌≡◌, ℕ, ◌+◌, ◌-◌, Bool, true, false, cond, ltb, List, [], ◌∷◌, ◌++◌, map, Option, Some, None, refl, ap, ap₂, sym, ◌∙◌, arith, list_any, le-ltb, cond-false, or_parts, length-map}
 use Rattle.std.specs.Prelude.{option_map}
 use Rattle.std.proofs.lemmas.List.Sums.{sum_by-cons}
@@ -37,7 +37,7 @@ segments-same (s ∷ ss) e =
 pub path_same : (p : AsPath) → any_number is_above_two_octets p ≡ false → narrow_path p ≡ p
 path_same p e = ap (λ (ss : List Segment). record { segments = ss }) (segments-same p.segments e)
 
--- ---- items stay
+-- ---- the number of items doesn't change
 
 item-same : (s : Segment) → items_in (narrow_segment s) ≡ items_in s
 item-same s = ap (items_by s.kind) (length-map s.numbers narrow_number)
@@ -86,7 +86,7 @@ narrowed-rebuilt a none =
     aggregator-back a.aggregator (option_map narrow_path a.as_path) (wide_path a.as_path)
     ∙ ap (λ (p : Option AsPath). record { path = p; aggregator = a.aggregator }) (path-back a.as_path)
 
--- the parts of what is told of an UPDATE
+-- the parts of the UPDATE that is sent
 pub update_of : (u : Update) (withdrawn nlri : List (Prefix 4)) (attrs : Attrs) → withdrawn ≡ u.withdrawn → nlri ≡ u.nlri → attrs ≡ narrowed u.attrs
     → record { withdrawn = withdrawn; attrs = attrs; nlri = nlri } ≡ narrowed_update u
 update_of u withdrawn nlri attrs e f g =

@@ -1,4 +1,4 @@
--- The first of values that may be there.
+-- The first of optional values.
 use Rattle.bgp_wire.proofs.Std.{◌≡◌, Option, Some, None, refl, option_or}
 use Rattle.std.specs.Prelude.{option_map}
 
@@ -11,7 +11,7 @@ module _ {A : Type 0} where
   option_or-none None = refl
   option_or-none (Some x) = refl
 
--- the value of what was put where there was none
+-- the value that was set where there was none
 pub map_filled : {A B : Type 0} (f : A → B) (slot : Option A) (value : A)
     → option_map f (option_or slot (Some value)) ≡ option_or (option_map f slot) (Some (f value))
 map_filled f None value = refl

@@ -1,4 +1,4 @@
--- How long the parts of a body are.
+-- The lengths of the parts of a body.
 use Rattle.bgp_wire.proofs.Std.{◌≡◌, ℕ, ◌+◌, ◌≤◌, Bool, true, false, cond, leb, List, [], ◌∷◌, length, take, drop, Option, Some, None, refl, sym, ap, arith, w16, from_be_bytes, leb-true}
 use Rattle.std.proofs.lemmas.List.{length-take, length-drop}
 use Rattle.bgp_update.specs.Prelude.{Parts, behind_two, parts_of}

@@ -1,4 +1,4 @@
--- The items of a path in octets are no more than these, and the first of them go segment by segment.
+-- The items of a path in octets are no more than these octets, and the first items are read segment by segment.
 use Rattle.bgp_wire.proofs.Std.{◌≡◌, ℕ, suc, ◌+◌, ◌-◌, ◌*◌, ◌<◌, ◌≤◌, Bool, true, false, eqb, List, [], ◌∷◌, ◌++◌, length, get_or, drop, Option, Some, None, refl, sym, ap, ap₂, ◌∙◌, append_assoc, arith, flat_map, length-map, flat_map-cons, at_drop_more, cond-false}
 use Rattle.std.proofs.lemmas.Bool.{ne_eqb}
 use Rattle.std.proofs.lemmas.List.{length-append}
@@ -47,7 +47,7 @@ pub no_lead : (segments : List Segment) → lead 0 segments ≡ []
 no_lead [] = refl
 no_lead (s ∷ segments) = refl
 
--- what is there and the lead of what is left, one segment more
+-- what is collected and the lead of what is left, with one more segment
 pub lead_step : (xs : List Segment) (i k n left : ℕ) (s : Segment) (now new whole : List Segment) → i < length xs → s ≡ get_or xs i s → 0 < k → new ≡ now ++ front_by k s.kind s.numbers → left ≡ k - n → n ≡ items_in s
     → now ++ lead k (drop i xs) ≡ whole → new ++ lead left (drop (i + 1) xs) ≡ whole
 lead_step xs i k n left s now new whole lt is some more less of_s e =
@@ -58,6 +58,6 @@ lead_step xs i k n left s now new whole lt is some more less of_s e =
     ∙ append_assoc now (front_by k s.kind s.numbers) (lead (k - items_in s) rest)
     ∙ ap (λ (b : List Segment). now ++ b) (sym (ap (lead k) are ∙ first)) ∙ e
 
--- the items so far and those that are left, one segment more
+-- the items so far and those that are left, with one more segment
 pub items_step : (all so_far n : ℕ) (left later : List Segment) (s : Segment) → so_far + items_of left ≡ all → left ≡ s ∷ later → n ≡ items_in s → (so_far + n) + items_of later ≡ all
 items_step all so_far n left later s e are is = omega (arith, e, ap items_of are ∙ sum_by-cons items_in s later, is)

@@ -1,4 +1,4 @@
--- Attributes that are kept by place: one more of them, and what stands in the slot of a type.
+-- The offsets of kept attributes by type: one more of them, and the attribute in the slot of a type.
 use Rattle.bgp_wire.proofs.Std.{◌≡◌, ℕ, zero, suc, ◌<◌, ◌≤◌, Bool, true, false, not, ◌||◌, cond, eqb, ltb, List, [], ◌∷◌, length, get_or, set, replicate, Option, Some, None, refl, sym, ap, ap₂, subst, ◌∙◌, arith, option_or, eqb-false, and_parts, ltb-true, both_ways, not-true}
 use Rattle.std.specs.Prelude.{◌-◌, option_map, slice_index_or, IfSome, IsTrue}
 use Rattle.std.proofs.lemmas.Bool.{eqb-true}
@@ -21,13 +21,13 @@ use Rattle.bgp_update.proofs.Lists.{eqb-swap}
 use Rattle.bgp_update.proofs.SlotLemmas.{each-row, IsTyped, slot-from, other-from}
 use Rattle.bgp_update.proofs.TypeLemmas.{is_of}
 
--- where there is no place, there is none
+-- where no offset is set, there is no attribute
 pub none_placed : (n k : ℕ) → (let none : ℕ = 0 in get_or (replicate n none) k none ≡ none)
 none_placed zero k = refl
 none_placed (suc n) zero = refl
 none_placed (suc n) (suc k) = none_placed n k
 
--- each recognised type has a place
+-- each recognised type has an entry
 pub kind-low : (kind : ℕ) → is_recognised kind ≡ true → kind < TYPES
 kind-low kind known = ltb-true kind TYPES (entry-passes (λ (k : ℕ). ltb k TYPES) kind judgement.recognised refl known)
 
@@ -74,7 +74,7 @@ module _ (ctx : Context) (has_nlri : Bool) (t : TlvValue) where
         (λ i. record { known = λ kind. sym (option_or-none (option_map value (tlv kind))) i; others = sym (or_true others) i })
         ∙ ap (λ (type : AttributeType). kept_behind before (type.value ∷ [])) (sym (row-other ctx has_nlri t other))
 
--- ---- one more place
+-- ---- one more offset
 
 module _ (places : List ℕ) (kind n : ℕ) (low : kind < length places) where
   abbrev pub more : List ℕ
@@ -86,7 +86,7 @@ module _ (places : List ℕ) (kind n : ℕ) (low : kind < length places) where
   elsewhere : (k : ℕ) → (k ≡ kind → ⊥) → slice_index_or more k 0 ≡ slice_index_or places k 0
   elsewhere k other = get_or-set_other places kind k n 0 other
 
-  -- what stands at a place, and whether something does
+  -- the attribute at an offset, and whether there is one
   pub more_by : {A : Type 0} (f : ℕ → A) (k : ℕ) → f (slice_index_or more k 0) ≡ cond (eqb k kind) (f n) (f (slice_index_or places k 0))
   more_by f k = by (eqb k kind) refl
     where
@@ -104,7 +104,7 @@ module _ (places : List ℕ) (kind n : ℕ) (low : kind < length places) where
           subst (λ (j : ℕ). IsKeptAs ctx has_nlri j t) (sym same) (kept t (ap (tlv_placed field) (sym (here k same)) ∙ is))
       by k t is false e = old.each k t (ap (tlv_placed field) (sym (elsewhere k (eqb-false k kind e))) ∙ is)
 
--- the type is seen then
+-- then the type is seen
 pub seen_also : (b : Bool) (n place : ℕ) → 0 < n → cond b (not (eqb n 0)) (not (eqb place 0)) ≡ (b || not (eqb place 0))
 seen_also false n place some = refl
 seen_also true n place some = by (eqb n 0) refl
@@ -113,7 +113,7 @@ seen_also true n place some = by (eqb n 0) refl
     by true e = let zero : n ≡ 0 = eqb-true n 0 e in absurd (omega (arith, some, zero))
     by false e = ap not e
 
--- where none of a type was seen there is no place
+-- where no attribute of a type was seen, its entry is 0
 pub first_none : (field places : List ℕ) (kind : ℕ) → not (eqb (slice_index_or places kind 0) 0) ≡ false → tlv_placed field (slice_index_or places kind 0) ≡ None
 first_none field places kind unseen = by (eqb (slice_index_or places kind 0) 0) refl
   where
@@ -121,14 +121,14 @@ first_none field places kind unseen = by (eqb (slice_index_or places kind 0) 0) 
     by true e = ap (tlv_placed field) (eqb-true (slice_index_or places kind 0) 0 e)
     by false e = absurd (both_ways (not (eqb (slice_index_or places kind 0) 0)) unseen (ap not e))
 
--- no attribute begins so far behind a field
+-- no attribute begins at an offset that large
 pub none_so_far : (field : List ℕ) → length field ≤ 4075 → tlv_placed field PASSED ≡ None
 unfolding tlv.one_tlv
 none_so_far field short =
     let past : length field ≤ 65534 = omega (arith, short) in
     ap (λ (octets : List ℕ). option_map (λ (x : TlvValue × List ℕ). x.0) (one_tlv octets)) (drop_of_length-le field past)
 
--- with one of a type of which none was there
+-- with one attribute of a type of which there was none
 pub placed_first : (tlv : ℕ → Option TlvValue) (kind : ℕ) (t : TlvValue) → tlv kind ≡ None → placed_also kind (Some t) tlv ≡ also_at kind t tlv
 placed_first tlv kind t none = λ i k. by k (eqb k kind) refl i
   where
@@ -144,13 +144,13 @@ placed_none tlv kind none = λ i k. by k (eqb k kind) refl i
     by k true e = sym none ∙ ap tlv (sym (eqb-true k kind e))
     by k false e = refl
 
--- ---- what is read at the place of a type
+-- ---- the attribute read at the offset of a type
 
 module _ (ctx : Context) (has_nlri : Bool) (field places : List ℕ) (all : ArePlaced ctx has_nlri field places) where
   abbrev tlv_of : ℕ → Option TlvValue
   tlv_of = λ k. tlv_placed field (slice_index_or places k 0)
 
-  -- it is of that type, and kept, and so is what is read there
+  -- it is of that type and kept, and so is its value
   pub read-at : (kind n : ℕ) (o : Option Tlv) → slice_index_or places kind 0 ≡ n → 0 < n → option_map tlv_value o ≡ tlv_at field (n - 1) → IfSome o (λ t. (t.kind ≡ kind) × IsTrue (is_kept (judgement ctx has_nlri (tlv_value t))))
   read-at kind n None is some e = tt
   read-at kind zero (Some t) is some e = absurd (omega arith)
@@ -185,7 +185,7 @@ module _ (ctx : Context) (has_nlri : Bool) (field places : List ℕ) (all : AreP
       by None e = refl
       by (Some t) e = absurd (both_ways (is_recognised kind) other (all.each kind t e).1)
 
-  -- what stands in the slot of a type is the value of the attribute there
+  -- the attribute in the slot of a type is the value of the attribute at its offset
   pub slot-value : (kind : ℕ) → slot (attrs_from value_of []) kind ≡ present (λ (t : TlvValue). (type_row ctx has_nlri t).value) (tlv_of kind)
   slot-value kind = by (is_recognised kind) refl
     where

@@ -1,4 +1,4 @@
--- An attribute of an unrecognised type, put in its place by type; and what is left where none is of such a type.
+-- An attribute of an unrecognised type, inserted by its type; and what is left where no attribute is of such a type.
 use Rattle.bgp_wire.proofs.Std.{◌≡◌, suc, Bool, true, false, cond, ltb, List, [], ◌∷◌, ◌++◌, map, refl, sym, ap, ◌∙◌, true≢false, insert, flat_map, list_any, or_parts}
 use Rattle.bgp_attr.specs.Prelude.{opaque_value}
 use Rattle.bgp_attr.specs.declared.attr.Attr.{Attr}
@@ -23,7 +23,7 @@ no_opaque : (a : Attr) → is_opaque a ≡ false → (os : List Opaque) → os �
 no_opaque (attr.Opaque o) e os none = absurd (true≢false e)
 no_opaque a e os none = none
 
--- where no attribute is of an unrecognised type, there is none
+-- where no attribute is of an unrecognised type, the list is empty
 pub no_others : (kept : List Attr) → list_any is_opaque kept ≡ false → flat_map as_opaque kept ≡ []
 no_others [] e = refl
 no_others (a ∷ later) e =

@@ -1,4 +1,4 @@
--- A valid UPDATE that is written is taken as itself.
+-- A valid UPDATE that is written is accepted unchanged.
 use Rattle.bgp_wire.proofs.Std.{◌≡◌, ℕ, ◌+◌, ◌≤◌, Bool, true, false, not, ◌&&◌, ◌||◌, eqb, ltb, List, [], ◌∷◌, ◌++◌, length, map, Option, Some, None, refl, sym, ap, ap₂, subst, ◌∙◌, arith, flat_map, list_any, AllByRecursion, option_or, both_ways, eqb-false, or_parts, or_from, and_right, cond-false, le-ltb, not-false}
 use Rattle.std.specs.Prelude.{is_some, is_none}
 use Rattle.std.proofs.lemmas.Bool.{eqb-true, lt-ltb}
@@ -31,7 +31,7 @@ use Rattle.bgp_update.proofs.KeptSlots.{field-lacks}
 use Rattle.bgp_update.proofs.Validity.{IsAccepted, valid-accepted}
 use Rattle.bgp_update.proofs.MarkLemmas.{KeepsAll, keeps-kept, keeps-no_reset, keeps-no_withdrawal, keeps-no_note, IsReady, AreReady, written-tlvs, field-keep, slots-fresh}
 
--- ---- attributes that belong where they stand
+-- ---- attributes that belong in the message
 
 placed-other : (ctx : Context) (nlri : Bool) (k : ℕ) → eqb k NEXT_HOP ≡ false → eqb k LOCAL_PREF ≡ false → (x : Attr) → type_of x ≡ k → Placed ctx nlri x
 placed-other ctx nlri k hop pref (attr.NextHop addr) e = absurd (eqb-false k NEXT_HOP hop (sym e))
@@ -54,7 +54,7 @@ module _ (ctx : Context) (nlri : Bool) (a : Attrs) (hop : is_some a.next_hop ≡
       by false e true f = placed-at k LOCAL_PREF f (placed-present attr.LocalPref a.local_pref (λ n is. pref is))
       by false e false f = all-more (λ x. type_of x ≡ k) (Placed ctx nlri) (slot a k) (placed-other ctx nlri k e f) (slot-types a k)
 
--- ---- no type stands twice
+-- ---- distinct types
 
 pub list-fresh : (a : Attrs) → NoneTwice none_of_them (map type_of (attr_list a))
 list-fresh a = slots-fresh (slot a) (slot-types a) (λ k. (slot-is a k).few) canonical_order none_of_them order-fresh
@@ -138,7 +138,7 @@ some-then : (o p : Bool) → (o && not p) ≡ false → o ≡ true → p ≡ tru
 some-then true p e is = not-false p e
 some-then false p e is = absurd (both_ways false refl is)
 
--- an attribute of the type is among those that stand there
+-- an attribute of the type is among those written
 has-by : (ctx : Context) (kind : ℕ) (xs : List Attr) (at : ℕ) → list_any (λ q. eqb q.tlv.kind kind) (placed_from at (map (written_tlv ctx) xs)) ≡ list_any (λ x. eqb (type_of x) kind) xs
 has-by ctx kind [] at = refl
 has-by ctx kind (x ∷ xs) at = ap (λ (b : Bool). eqb (type_of x) kind || b) (has-by ctx kind xs (at + length (canonical ctx x)))
@@ -147,14 +147,14 @@ not-missing : (some has : Bool) (none : Bool) → (some && none) ≡ false → (
 not-missing some true none e so = and_right some false refl
 not-missing some false none e so = ap (λ (b : Bool). some && b) (sym (so refl)) ∙ e
 
--- what a test of both says of each
+-- what a test on both says of each
 of-both : (b x y : Bool) → (b && (x || y)) ≡ false → ((b && x) ≡ false) × ((b && y) ≡ false)
 of-both true x y e = or_parts x y e
 of-both false x y e = (refl, refl)
 
 -- ---- the verdict
 
--- with no reset, no withdrawal and no note, the message is taken
+-- with no reset, no withdrawal and no note, the message is accepted
 take-as : (p : Parts) (marks : List Mark) (u : Update) → reset_of p marks ≡ None → is_withdrawn p marks ≡ false → update_of p marks ≡ u → notes_of p marks ≡ [] → verdict_on p marks ≡ verdict.Take u []
 take-as p marks u reset withdrawn update notes =
     ap (λ (o : Option Notification). unless_reset o (without_reset p marks)) reset
@@ -269,7 +269,7 @@ module _ (ctx : Context) (u : Update) (ranges : HasUpdateRanges u) (valid : inva
 pub valid-taken : (ctx : Context) (u : Update) → HasUpdateRanges u → invalid_of ctx u ≡ None → length (written_body ctx u) ≤ 4077 → verdict_of ctx (written_body ctx u) ≡ verdict.Take u []
 valid-taken = taken-back
 
--- ---- what is valid and fits can be written
+-- ---- a valid UPDATE that fits can be written
 
 record Fits (ctx : Context) (x : Attr) : Type 0 where
   named : is_misnamed x ≡ false
@@ -284,7 +284,7 @@ writable-by ctx x p f =
     Writes-writable ctx x (record { narrow = p.narrow; allowed = p.allowed; some = p.some; named = f.named; nonzero = p.nonzero; once = p.once; fits = f.fits })
 
 module _ (ctx : Context) (u : Update) where
-  -- an UPDATE that a message holds has no attribute that is too long
+  -- an UPDATE that fits a message has no attribute that is too long
   pub none-long : length (written_body ctx u) ≤ 4077 → AllByRecursion (λ x. is_too_long ctx x ≡ false) (attr_list u.attrs)
   none-long short =
       let xs : List Attr = attr_list u.attrs in

@@ -1,4 +1,4 @@
--- A mark says that an attribute is repeated exactly where one of its type stands before it.
+-- A mark says that an attribute is repeated exactly where one of its type precedes it.
 use Rattle.bgp_wire.proofs.Std.{◌≡◌, ℕ, ◌-◌, Bool, true, false, ◌&&◌, ◌||◌, nat_lt, eqb, List, [], ◌∷◌, ◌++◌, length, refl, sym, ap, ◌∙◌, arith, if◌then◌else◌}
 use Rattle.std.proofs.lemmas.List.{append_assoc}
 use Rattle.bgp_wire.specs.Prelude.{also, none_of_them}
@@ -12,7 +12,7 @@ use Rattle.bgp_update.specs.Prelude.{stands_in, IsRepeated, IsMarkBehind, HasMar
 use Rattle.bgp_update.proofs.Lists.{eqb-swap}
 use Rattle.bgp_update.proofs.MarkTypes.{or_past}
 
--- ---- what is seen behind some attributes
+-- ---- the types seen after some attributes
 
 abbrev seen_behind : (ℕ → Bool) → List PlacedTlv → ℕ → Bool
 seen_behind seen [] = seen

@@ -1,4 +1,4 @@
--- Attributes of unrecognised types, each put in its place by type.
+-- Attributes of unrecognised types, each inserted in ascending order of types.
 use Rattle.bgp_wire.proofs.Std.{◌≡◌, ℕ, zero, suc, ◌+◌, ◌<◌, ◌≤◌, Bool, true, false, ◌||◌, cond, eqb, ltb, List, [], ◌∷◌, ◌++◌, map, Option, Some, None, refl, sym, ap, ap₂, ◌∙◌, append_assoc, arith, flat_map, find, list_any, AllByRecursion, option_or, both_ways, ltb-true, ltb-false, eqb-false, and_parts, and_from, or_parts}
 use Rattle.std.proofs.lemmas.Bool.{eqb-true, lt-ltb, ne_eqb}
 use Rattle.std.proofs.lemmas.List.{append-nil}
@@ -7,7 +7,7 @@ use Rattle.bgp_wire.specs.Prelude.{also}
 use Rattle.bgp_update.specs.Prelude.{put_rising, rising_behind, types_from, rise_behind, rise}
 use Rattle.bgp_update.proofs.Lists.{eqb-swap, or-none, find-none, all-append, all-more, flat_map-none}
 
--- no type stands twice, nor is it among those that were seen
+-- no type occurs twice, nor is it among those that were seen
 abbrev pub NoneTwice : (ℕ → Bool) → List ℕ → Type 0
 NoneTwice seen [] = Unit {0}
 NoneTwice seen (k ∷ ks) = (seen k ≡ false) × NoneTwice (also k seen) ks
@@ -21,7 +21,7 @@ has_kind k os = list_any (λ o. eqb o.kind k) os
 abbrev pub of_kind : ℕ → List Opaque → Option Opaque
 of_kind k os = find (λ o. eqb o.kind k) os
 
--- ---- one more, in its place
+-- ---- one more, inserted
 
 or-swap : (x y z : Bool) → (x || (y || z)) ≡ (y || (x || z))
 or-swap true true z = refl
@@ -68,7 +68,7 @@ pub put-all : (P : Opaque → Type 0) (o : Opaque) (ps : List Opaque) → P o �
 put-all P o [] this all = (this, tt)
 put-all P o (p ∷ ps) this all = all-by P o p ps (ltb p.kind o.kind) this all.0 all.1 (put-all P o ps this all.1)
 
--- ---- rising
+-- ---- ascending
 
 -- each type is above the one before it, the first no less than this
 abbrev pub RisesFrom : ℕ → List Opaque → Type 0
@@ -120,7 +120,7 @@ rises-none k low (o ∷ os) lt r =
 
 -- ---- all of them
 
--- the types that are there are those that were seen
+-- the types in the list are those that were seen
 abbrev pub HasSeen : (ℕ → Bool) → List Opaque → Type 0
 HasSeen seen there = (k : ℕ) → has_kind k there ≡ seen k
 
@@ -151,7 +151,7 @@ pub rising-all : (P : Opaque → Type 0) (os there : List Opaque) → AllByRecur
 rising-all P [] there all more = all
 rising-all P (o ∷ os) there all more = rising-all P os (put_rising o there) (put-all P o there more.0 all) more.1
 
--- ---- those that rise already stay
+-- ---- a list that is ascending doesn't change
 
 put-last : (o : Opaque) (there : List Opaque) → AllByRecursion (λ p. p.kind < o.kind) there → put_rising o there ≡ there ++ o ∷ []
 put-last o [] below = refl
@@ -169,7 +169,7 @@ rising-same (o ∷ os) there low rises below =
     ∙ rising-same os (there ++ o ∷ []) (o.kind + 1) rises.1 (all-append (λ p. p.kind < o.kind + 1) there (o ∷ []) under_next (omega arith, tt))
     ∙ append_assoc there (o ∷ []) os
 
--- ---- found by type, one type after the other
+-- ---- found by type, in the order of the types
 
 abbrev pub listed : Option Opaque → List Opaque
 listed None = []

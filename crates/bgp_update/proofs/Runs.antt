@@ -1,4 +1,4 @@
--- Whether octets are IPv4 prefixes alone.
+-- Whether octets are only IPv4 prefixes.
 use Rattle.bgp_wire.proofs.Std.{◌≡◌, ℕ, Bool, true, false, eqb, List, [], ◌∷◌, length, refl, sym, IsTrue}
 use Rattle.std.proofs.Math.Dec.{eqb-suc-zero}
 use Rattle.std.proofs.lemmas.Bool.{true≢false}
@@ -13,6 +13,6 @@ rest_test (x ∷ rest) true only all = absurd (not_nil x rest (only refl))
     not_nil x rest e = absurd cc
 rest_test (x ∷ rest) false only all = eqb-suc-zero (length rest)
 
--- from the answer of a check of a run
+-- from the result of a check of a run
 pub run_test : (b : List ℕ) (t : Bool) → (IsTrue t → (run_of 4 b).1 ≡ []) × ((run_of 4 b).1 ≡ [] → IsTrue t) → eqb (length (run_of 4 b).1) 0 ≡ t
 run_test b t both = rest_test (run_of 4 b).1 t both.0 both.1

@@ -1,4 +1,4 @@
--- The slots of attributes: each holds the one attribute of its type, and all of them give the attributes back.
+-- The slots of attributes: each holds the one attribute of its type, and all of them hold all attributes.
 use Rattle.bgp_wire.proofs.Std.{◌≡◌, ℕ, ◌+◌, ◌<◌, ◌≤◌, Bool, true, false, not, ◌&&◌, cond, eqb, List, [], ◌∷◌, ◌++◌, length, map, Option, Some, None, inl, inr, refl, sym, ap, subst, ◌∙◌, arith, flat_map, filter, list_any, AllByRecursion, both_ways, and_parts, and_right, or_parts, or_cases, not-false, not-true, flat_map-append}
 use Rattle.std.specs.Prelude.{is_some}
 use Rattle.std.proofs.lemmas.Bool.{eqb-true}
@@ -43,13 +43,13 @@ each-row f g (row ∷ rows) same =
     let rest : map (λ row. f row.0 row.1) rows ≡ map (λ row. g row.0 row.1) rows = cc in
     (this, each-row f g rows rest)
 
--- and what is the same for all recognised types, for each
+-- and what is the same for all recognised types is the same for each
 pub at_each : {A : Type 0} (f g : ℕ → A) → map (λ row. f row.0) judgement.recognised ≡ map (λ row. g row.0) judgement.recognised → (kind : ℕ) → is_recognised kind ≡ true → f kind ≡ g kind
 at_each f g same kind known =
     by_row kind (λ (ctx : Context) (has_nlri : Bool) (t : TlvValue). other_type t) (λ k row. f k ≡ g k) judgement.recognised (each-row (λ k row. f k) (λ k row. g k) judgement.recognised same)
     (λ none. absurd (both_ways (is_recognised kind) none known))
 
--- ---- attributes that are made of those by type
+-- ---- attributes built from those by type
 
 -- an attribute of a recognised type
 abbrev pub IsTyped : ℕ → Option Attr → Type 0
@@ -58,7 +58,7 @@ IsTyped kind o = (x : Attr) → o ≡ Some x → is_of kind x ≡ true
 pub typed-first : (kind : ℕ) (xs : List Attr) → IsTyped kind (first_known xs kind)
 typed-first kind xs = find-passes (is_of kind) xs
 
--- an attribute stands in the slot of its type
+-- an attribute is in the slot of its type
 alone : (others : List Opaque) (x : Attr)
     → map (λ row. cond (is_of row.0 x) (slot (attrs_from (λ k. Some x) others) row.0) []) judgement.recognised ≡ map (λ row. cond (is_of row.0 x) (x ∷ []) []) judgement.recognised
 unfolding slot attrs_from
@@ -81,7 +81,7 @@ module _ (first : ℕ → Option Attr) (others : List Opaque) (kind : ℕ) where
   unfolding attrs_from
   other-from other = slot-other (attrs_from first others) kind other
 
--- they are made of those of recognised types alone
+-- they are built from those of recognised types only
 attrs-agree : (first second : ℕ → Option Attr) (others : List Opaque) → ((kind : ℕ) → is_recognised kind ≡ true → first kind ≡ second kind) → attrs_from first others ≡ attrs_from second others
 unfolding attrs_from
 attrs-agree first second others same = ap (λ (f : ℕ → Option Attr). attrs_from (λ k. cond (is_recognised k) (f k) None) others) (λ i. λ k. known k (is_recognised k) refl i)
@@ -90,7 +90,7 @@ attrs-agree first second others same = ap (λ (f : ℕ → Option Attr). attrs_f
     known k true e = same k e
     known k false e = refl
 
--- ---- what the slots have gives the attributes back
+-- ---- the slots hold all attributes
 
 back : {A : Type 0} (as_attr : A → Attr) (as_value : Attr → Option A) (kind : ℕ) → ((v : A) → (first_known (as_attr v ∷ []) kind >>= as_value) ≡ Some v)
     → (o : Option A) → (first_known (present as_attr o) kind >>= as_value) ≡ o
@@ -108,7 +108,7 @@ module _ (a : Attrs) where
   abbrev in_slot : ℕ → Option Attr
   in_slot k = first_known (slot a k) k
 
-  -- one more type is one more line here, and the only one among these facts
+  -- one more type is one more line here, and in no other of these facts
   pub fields-back : attrs_from in_slot a.others ≡ a
   unfolding slot attrs_from
   fields-back = λ i. record {
@@ -128,7 +128,7 @@ module _ (a : Attrs) where
     others = a.others;
   }
 
-  -- so a slot has the first of its type and no more
+  -- so a slot has the first attribute of its type and no more
   slot-first : (kind : ℕ) → is_recognised kind ≡ true → slot a kind ≡ at_most_one (in_slot kind)
   slot-first kind known = ap (λ (b : Attrs). slot b kind) (sym fields-back) ∙ slot-from in_slot a.others kind (typed-first kind (slot a kind)) known
 
@@ -172,9 +172,9 @@ pub list-named : (a : Attrs) → Named (attr_list a)
 list-named a =
     all-flat_map (λ x. is_misnamed x ≡ false) (slot a) canonical_order (λ k. all-more (OfSlot k) (λ x. is_misnamed x ≡ false) (slot a k) (λ x s. s.named) (slot-is a k).all)
 
--- ---- the attributes in order give the attributes back
+-- ---- the attributes in order hold all attributes
 
--- each type that is recognised has its place
+-- each type that is recognised is in the order
 pub recognised-stands : (k : ℕ) → is_recognised k ≡ true → in_order k ≡ true
 unfolding canonical_order
 recognised-stands k recognised = entry-passes in_order k judgement.recognised refl recognised
@@ -201,7 +201,7 @@ flat_map-twice : {A B C : Type 0} (f : B → List C) (g : A → List B) (xs : Li
 flat_map-twice f g [] = refl
 flat_map-twice {C = C} f g (x ∷ xs) = flat_map-append f (g x) (flat_map g xs) ∙ ap (λ (b : List C). flat_map f (g x) ++ b) (flat_map-twice f g xs)
 
--- an attribute of a recognised type is none of the unrecognised ones
+-- an attribute of a recognised type isn't among the unrecognised ones
 no_opaque : (k : ℕ) → is_recognised k ≡ true → (x : Attr) → OfSlot k x → as_opaque x ≡ []
 no_opaque k recognised (attr.Opaque o) s = absurd (both_ways (is_recognised o.kind) s.named (ap is_recognised s.of_type ∙ recognised))
 no_opaque k recognised _ s = refl
@@ -210,7 +210,7 @@ one_opaque : (o : Option Opaque) → flat_map as_opaque (present (λ (p : Opaque
 one_opaque None = refl
 one_opaque (Some p) = refl
 
--- a recognised type isn't found among others
+-- a recognised type isn't found among the unrecognised ones
 unfound : (k : ℕ) (os : List Opaque) → is_recognised k ≡ true → list_any (λ o. is_recognised o.kind) os ≡ false → listed (of_kind k os) ≡ []
 unfound k os recognised none =
     let apart : AllByRecursion (λ o. eqb o.kind k ≡ false) os = all-more (λ o. is_recognised o.kind ≡ false) (λ o. eqb o.kind k ≡ false) os (λ o e. other_kind o.kind k recognised e) (none-all (λ o. is_recognised o.kind) os none) in

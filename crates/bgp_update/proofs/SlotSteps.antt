@@ -1,4 +1,4 @@
--- A walk over the types in order: the attributes so far, one type more, and all of them.
+-- A loop over the types in order: the attributes so far, with one more type, and all of them.
 use Rattle.bgp_wire.proofs.Std.{◌≡◌, ℕ, ◌+◌, ◌<◌, ◌≤◌, List, [], ◌∷◌, ◌++◌, length, get_or, take, drop, sym, ap, subst, ◌∙◌, append_assoc, arith, flat_map, AllByRecursion, take_more, take-append-drop}
 use Rattle.std.proofs.lemmas.Grind.{flat_map-append}
 use Rattle.std.proofs.lemmas.List.{append-nil, length-append, take_all}
@@ -7,7 +7,7 @@ use Rattle.bgp_wire.proofs.Writes.{IsWritten}
 use Rattle.bgp_update.proofs.Lists.{all-append, all-front, all-back}
 
 module _ {A : Type 0} (slots : ℕ → List A) (kinds : List ℕ) (i : ℕ) where
-  -- what the types so far have
+  -- the attributes of the types so far
   abbrev pub so_far : List A
   so_far = flat_map slots (take i kinds)
 
@@ -20,14 +20,14 @@ module _ {A : Type 0} (slots : ℕ → List A) (kinds : List ℕ) (i : ℕ) wher
         ap (flat_map slots) (take_more kinds i 0 lt ∙ ap (λ (k : ℕ). take i kinds ++ k ∷ []) is)
         ∙ flat_map-append slots (take i kinds) (kind ∷ []) ∙ ap (λ (xs : List A). so_far ++ xs) (append-nil (slots kind))
 
-    -- what all types have begins so
+    -- they are the first of those of all types
     pub still_to_come : flat_map slots kinds ≡ (so_far ++ slots kind) ++ flat_map slots (drop (i + 1) kinds)
     still_to_come =
         ap (flat_map slots) (sym (take-append-drop (i + 1) kinds))
         ∙ flat_map-append slots (take (i + 1) kinds) (drop (i + 1) kinds)
         ∙ ap (λ (xs : List A). xs ++ flat_map slots (drop (i + 1) kinds)) one_type
 
-    -- what holds of each holds of those of a type
+    -- what holds of each attribute holds of those of a type
     pub all_of_type : (P : A → Type 0) → AllByRecursion P (flat_map slots kinds) → AllByRecursion P (slots kind)
     all_of_type P all =
         all-back P so_far (slots kind)
@@ -62,12 +62,12 @@ module _ {A : Type 0} (slots : ℕ → List A) (kinds : List ℕ) (i : ℕ) wher
       type_lacks room full =
           omega (arith, full, ap length written.items, length-append before (flat_map octets so_far), length_added octets, length_all octets)
 
--- what was there, some octets, and more of them
+-- what was there, some octets, and more octets
 pub written_more : {A : Type 0} (octets : A → List ℕ) (P : A → Type 0) (xs : List A) (before old new : List ℕ) → IsWritten octets P xs before old → Extends old new → Extends before new
 written_more octets P xs before old new written more =
     (flat_map octets xs ++ more.0, more.1 ∙ ap (λ (b : List ℕ). b ++ more.0) written.items ∙ append_assoc before (flat_map octets xs) more.0)
 
--- nothing is asked of each
+-- no condition on the attributes
 pub asks_nothing : {A : Type 0} (xs : List A) → AllByRecursion (λ (a : A). Unit {0}) xs
 asks_nothing [] = tt
 asks_nothing (x ∷ xs) = (tt, asks_nothing xs)

@@ -1,4 +1,4 @@
--- Which types a walk over the attributes has to look at.
+-- Which types a loop over the attributes must look at.
 use Rattle.bgp_wire.proofs.Std.{◌≡◌, ℕ, ◌<◌, Bool, true, false, not, eqb, ltb, List, [], length, take, ap, refl, ◌∙◌, arith, flat_map, filter, list_any, both_ways, ltb-true, ltb-false, not-false, not-true}
 use Rattle.std.proofs.lemmas.Bool.{lt-ltb, ne_eqb}
 use Rattle.bgp_attr.specs.declared.attr.Attr.TheVariants as attr

@@ -1,4 +1,4 @@
--- The attributes of a field lie within it.
+-- The attributes of a field are within it.
 use Rattle.bgp_wire.proofs.Std.{◌≡◌, ℕ, ◌+◌, ◌≤◌, Bool, true, false, ◌&&◌, leb, List, [], ◌∷◌, length, refl, ap, ◌∙◌, arith, list_all, le-leb, leb-true}
 use Rattle.std.proofs.lemmas.List.{length-append}
 use Rattle.bgp_wire.specs.Prelude.{Row}
@@ -20,7 +20,7 @@ field_small field le =
     let s = Splits-pieces TlvValue IsTlv one_tlv IsTlv-reads field in
     row_small (tlvs_of field).0 0 s.row s.spelled (omega (arith, ap length s.whole, length-append s.row (tlvs_of field).1))
 
--- the first one, and the others
+-- the first attribute, and the others
 pub both_small : (p : PlacedTlv) (ps : List PlacedTlv) → list_all is_small (p ∷ ps) ≡ true → (p.at + length p.tlv.whole ≤ 4075) × (list_all is_small ps ≡ true)
 both_small p ps e = at (leb (p.at + length p.tlv.whole) 4075) refl e
   where

@@ -1,4 +1,4 @@
--- All marks in sum, mark by mark.
+-- The summary of all marks, mark by mark.
 use Rattle.bgp_wire.proofs.Std.{◌≡◌, ℕ, length, cond, Bool, true, false, ◌||◌, List, [], ◌∷◌, ◌++◌, Option, refl, sym, ap, ◌∙◌, list_any, option_or, flat_map-cons}
 use Rattle.std.proofs.lemmas.List.{append-nil}
 use Rattle.bgp_frame.specs.declared.notification.Notification.{Notification}
@@ -57,7 +57,7 @@ by_mark s m j is reset withdrawn noted kept e f g h = λ i. record {
   kept = (h ∙ ap (λ (k : Judged). kept_behind s.kept (kept_by k)) (sym is) ∙ ap (kept_behind s.kept) (sym (one_of m))) i;
 }
 
--- of one that is kept
+-- for one that is kept
 pub kept_mark : (s : SummaryValue) (m : Mark) (a : Attr) → m.judged ≡ judged.Keep a → record s { kept = kept_behind s.kept (a ∷ []) } ≡ summary_behind s (m ∷ [])
 kept_mark s m a is = by_mark s m (judged.Keep a) is s.reset s.withdraws s.notes (kept_behind s.kept (a ∷ [])) (sym (option_or-none s.reset)) (sym (or_false s.withdraws)) (sym (or_false s.notes)) refl
 
@@ -69,7 +69,7 @@ no_more s = λ i. record {
   kept = kept_none s.kept i;
 }
 
--- all behind none are those of the whole
+-- all after none are those of the whole
 pub summary_whole : (marks : List Mark) → summary_behind (summary_of []) marks ≡ summary_of marks
 summary_whole marks = ap (λ (k : Kept). record (summary_of marks) { kept = k }) (kept_whole (kept_of marks))
 
@@ -80,9 +80,9 @@ pub summary_step : (s now all : SummaryValue) (m : Mark) (left later : List Mark
 summary_step s now all m left later e f whole =
     ap (λ (t : SummaryValue). summary_behind t later) e ∙ summary_more m later s ∙ ap (summary_behind s) (sym f) ∙ whole
 
--- ---- the marks of a field from where it is walked to
+-- ---- the marks of a field from where the loop is
 
--- the next attribute is judged behind those types, and those behind it behind its type too
+-- the next attribute is judged after those types, and those after it after its type too
 pub ahead_step : (ctx : Context) (nlri : Bool) (field : List ℕ) (seen now : ℕ → Bool) (p : PlacedTlv) (it later : TlvIter)
     → tlvs_left it ≡ p ∷ tlvs_left later → rest_left it ≡ rest_left later → now ≡ also p.tlv.kind seen
     → marks_ahead ctx nlri field seen it ≡ record { at = p.at; kind = p.tlv.kind; judged = judged_behind ctx nlri seen p.tlv } ∷ marks_ahead ctx nlri field now later
@@ -90,7 +90,7 @@ ahead_step ctx nlri field seen now p it later tlvs rest is =
     (λ i. marks_behind ctx nlri seen (tlvs i) ++ cut_mark (length field - length (rest i)) (rest i))
     ∙ ap (λ (set : ℕ → Bool). record { at = p.at; kind = p.tlv.kind; judged = judged_behind ctx nlri seen p.tlv } ∷ (marks_behind ctx nlri set (tlvs_left later) ++ cut_mark (length field - length (rest_left later)) (rest_left later))) (sym is)
 
--- what stands behind the last is all that is left
+-- after the last attribute, all that is left is what is cut off
 pub ahead_none : (ctx : Context) (nlri : Bool) (field : List ℕ) (seen : ℕ → Bool) (it : TlvIter) → tlvs_left it ≡ []
     → marks_ahead ctx nlri field seen it ≡ cut_mark (length field - length (rest_left it)) (rest_left it)
 ahead_none ctx nlri field seen it none = ap (λ (ps : List PlacedTlv). marks_behind ctx nlri seen ps ++ cut_mark (length field - length (rest_left it)) (rest_left it)) none

@@ -1,4 +1,4 @@
--- An UPDATE that is taken can be written, in no more octets.
+-- An accepted UPDATE can be written, in no more octets.
 use Rattle.bgp_wire.proofs.Std.{◌≡◌, ℕ, ◌+◌, ◌≤◌, Bool, true, false, not, ◌&&◌, ◌||◌, cond, eqb, ltb, List, [], ◌∷◌, length, Option, Some, None, refl, sym, ap, ap₂, subst, ◌∙◌, arith, list_any, AllByRecursion, option_or, false≢true, or_parts, or_from, not_from_true, nil_from_length}
 use Rattle.std.specs.Prelude.{is_some, is_none}
 use Rattle.std.proofs.lemmas.Bool.{true≢false, lt-ltb, eqb-true}
@@ -40,13 +40,13 @@ no_reset-length : (n : ℕ) (t : Bool) → eqb n 0 ≡ t → (let reset : Option
 no_reset-length n true e f = eqb-true n 0 e
 no_reset-length n false e f = absurd cc
 
--- octets that ask for no reset are a row of prefixes
+-- octets that cause no reset are a row of prefixes
 pub run-row : (b : List ℕ) → reset_of_run b ≡ None → Row (IsPrefix 4) (run_of 4 b).0 b
 run-row b e =
     let none : (run_of 4 b).1 ≡ [] = nil_from_length (run_of 4 b).1 (no_reset-length (length (run_of 4 b).1) (eqb (length (run_of 4 b).1) 0) refl e) in
     Row-pieces PrefixValue (IsPrefix 4) (one_prefix 4) (IsPrefix-reads 4) b (run_of 4 b).0 (ap (λ (r : List ℕ). ((run_of 4 b).0, r)) none)
 
--- a row has prefixes where it has octets
+-- a row that isn't empty has prefixes
 pub row-some : (ps : List PrefixValue) (b : List ℕ) → Row (IsPrefix 4) ps b → ltb 0 (length ps) ≡ ltb 0 (length b)
 row-some [] b row = ap (λ (x : List ℕ). ltb 0 (length x)) (sym row)
 row-some (p ∷ ps) b row =
@@ -84,7 +84,7 @@ module _ (ctx : Context) (nlri : Bool) where
   pref-needs None placed e = absurd (false≢true e)
   pref-needs (Some n) placed e = placed.0
 
--- ---- a message with these parts that goes on
+-- ---- a message of these parts without a reset
 
 module _ (ctx : Context) (p : Parts) (octets_w : AreOctets p.withdrawn) (octets_a : AreOctets p.attributes) (octets_n : AreOctets p.nlri)
     (no_reset : reset_of p (marks_of ctx p) ≡ None) (stays : is_withdrawn p (marks_of ctx p) ≡ false) where
@@ -117,7 +117,7 @@ module _ (ctx : Context) (p : Parts) (octets_w : AreOctets p.withdrawn) (octets_
   abbrev a : Attrs
   a = attrs_of kept
 
-  -- what holds of each that was kept
+  -- what holds of each attribute that was kept
   among : (P : Attr → Type 0) → ((x : Attr) → IsReady ctx nlri x → P x) → AllByRecursion P (attr_list a)
   among = slots.each-slot ctx p octets_a
 

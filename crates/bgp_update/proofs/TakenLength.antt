@@ -34,7 +34,7 @@ module _ (f : Attr → List ℕ) where
       omega (arith, total-append (x ∷ []) (firsts ks (x ∷ xs)), total-append (first_of_type k xs) (firsts ks xs), same, length-append (f x) [])
   more-by x xs k ks seen false e fresh later = omega (arith, total-append (first_of_type k xs) (firsts ks (x ∷ xs)), total-append (first_of_type k xs) (firsts ks xs))
 
-  -- one more attribute adds itself at most
+  -- one more attribute adds at most its own octets
   firsts-more : (x : Attr) (xs : List Attr) (ks : List ℕ) (seen : ℕ → Bool) → NoneTwice seen ks → total (firsts ks (x ∷ xs)) ≤ length (f x) + total (firsts ks xs)
   firsts-more x xs [] seen fresh = omega arith
   firsts-more x xs (k ∷ ks) seen fresh = more-by x xs k ks seen (eqb (type_of x) k) refl fresh.1 (firsts-more x xs ks (also k seen) fresh.1)

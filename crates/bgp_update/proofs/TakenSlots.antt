@@ -1,4 +1,4 @@
--- What the slots of a message's attributes hold: of each type the first that was kept.
+-- The slots of a message's attributes: each holds the first that was kept of its type.
 use Rattle.bgp_wire.proofs.Std.{◌≡◌, ℕ, ◌-◌, ◌<◌, ◌≤◌, true, false, not, List, [], ◌++◌, length, refl, ap, subst, sym, ◌∙◌, arith, flat_map, list_any, AllByRecursion, or_parts, not-false}
 use Rattle.std.proofs.lemmas.List.{length-append}
 use Rattle.bgp_wire.specs.Prelude.{AreOctets, none_of_them, Splits}
@@ -47,7 +47,7 @@ module _ (ctx : Context) (p : Parts) (octets : AreOctets p.attributes) where
       subst (λ (xs : List Attr). IsKept ctx (has_nlri p) none_of_them xs (length splits.row)) (sym kept-is)
       (row-kept ctx (has_nlri p) (tlvs_of p.attributes).0 splits.row 0 none_of_them splits.spelled (AreOctets-front splits.row (tlvs_of p.attributes).1 (subst AreOctets splits.whole octets)))
 
-  -- what holds of each attribute that is ready to be written
+  -- what holds of each attribute that can be written
   pub each-kept : (P : Attr → Type 0) → ((x : Attr) → IsReady ctx (has_nlri p) x → P x) → AllByRecursion P kept
   each-kept P so = all-more (IsReady ctx (has_nlri p)) P kept so is-kept.ready
 

@@ -1,4 +1,4 @@
--- Each attribute of an UPDATE that a speaker with AS numbers of two octets is told can be written for it.
+-- Each attribute of an UPDATE sent to a 2-octet-AS peer can be written.
 use Rattle.bgp_wire.proofs.Std.{◌≡◌, ℕ, ◌≤◌, Bool, true, false, ltb, List, [], ◌∷◌, length, map, subst, arith, flat_map, AllByRecursion, ltb-false, le-ltb, length-map}
 use Rattle.std.proofs.lemmas.Bool.{true≢false}
 use Rattle.std.proofs.lemmas.List.{length-append}
@@ -14,7 +14,7 @@ use Rattle.bgp_update.specs.Prelude.{narrow_number, narrow_segment, narrow_aggre
 use Rattle.bgp_update.proofs.ReadBack.{none-long, short-writable}
 use Rattle.bgp_update.proofs.Widths.{is_narrowed, Carries, told-all, narrowed_update_is_valid}
 
--- what has no more octets isn't too long either
+-- a value of no more octets isn't too long either
 no-longer : (m n : ℕ) → m ≤ n → ltb 65535 n ≡ false → ltb 65535 m ≡ false
 no-longer m n le e = le-ltb 65535 m (omega (arith, ltb-false 65535 n e, le))
 

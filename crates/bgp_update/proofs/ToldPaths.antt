@@ -18,14 +18,14 @@ narrow_written s code count old head new code_is count_is e f =
     (e ∙ ap₂ (λ (c n : ℕ). old ++ c ∷ n ∷ []) code_is (count_is ∙ sym (length-map s.numbers narrow_number)))
     (f ∙ ap (λ (b : List ℕ). head ++ b) (sym (flat_map-map (λ (n : AsNumber). number_octets false n.0) narrow_number s.numbers)))
 
--- the first of segments none of which is bad, and those behind it
+-- the first of segments none of which is bad, and those after it
 pub none_bad : (left : List Segment) (s : Segment) (later : List Segment) → left ≡ s ∷ later → list_any is_bad_segment (map narrow_segment left) ≡ false
     → (is_bad_segment (narrow_segment s) ≡ false) × (list_any is_bad_segment (map narrow_segment later) ≡ false)
 none_bad left s later are none =
     or_parts (is_bad_segment (narrow_segment s)) (list_any is_bad_segment (map narrow_segment later))
     (sym (ap (λ (xs : List Segment). list_any is_bad_segment (map narrow_segment xs)) are) ∙ none)
 
--- an attribute that may be there, written where it is
+-- an optional attribute, written where there is one
 module _ {A : Type 0} (make : A → Attr) (all : Option A) (ctx : Context) (old new : List ℕ) where
   pub nothing_there : None ≡ all → old ≡ old ++ flat_map (canonical ctx) (present make all)
   nothing_there none = sym (append-nil old) ∙ ap (λ (o : Option A). old ++ flat_map (canonical ctx) (present make o)) none
@@ -42,7 +42,7 @@ module _ {A : Type 0} (make : A → Attr) (all : Option A) (ctx : Context) (old 
 pub unchanged : {E : Type 0} (r : Result (Unit {0}) E) (old new : List ℕ) → OnErr r (new ≡ old) → OnErr r (Extends old new)
 unchanged r old new same = on_err_weaker r (λ e. ([], e ∙ sym (append-nil old))) same
 
--- what two calls add stays where a third adds nothing
+-- what two calls append remains where a third appends nothing
 pub extends_by : (old head more new front back : List ℕ) → head ≡ old ++ front → more ≡ head ++ back → new ≡ more → Extends old new
 extends_by old head more new front back e f g = (front ++ back, g ∙ f ∙ ap (λ (b : List ℕ). b ++ back) e ∙ append_assoc old front back)
 

@@ -1,4 +1,4 @@
--- The order of the types has each once, and what an attribute's type says of it.
+-- The order of the types has each type once, and what an attribute's type implies.
 use Rattle.bgp_wire.proofs.Std.{◌≡◌, ℕ, zero, suc, ◌+◌, ◌≤◌, Bool, true, false, not, ◌||◌, ◌&&◌, cond, eqb, List, [], ◌∷◌, Option, refl, ap, ◌∙◌, arith, filter, find, list_any, AllByRecursion, both_ways, or_parts, or_from, or_right, not-true}
 use Rattle.std.proofs.lemmas.Bool.{ne_eqb}
 use Rattle.bgp_attr.specs.declared.attr.Attr.{Attr}
@@ -17,7 +17,7 @@ fresh-by test low n seen true e new later =
     (new low (omega arith) e, later (also low seen) (λ (k : ℕ) (le : low + 1 ≤ k) f. or_from (eqb k low) (seen k) (ne_eqb k low (λ (g : k ≡ low). absurd (omega arith))) (new k (omega arith) f)))
 fresh-by test low n seen false e new later = later seen (λ (k : ℕ) (le : low + 1 ≤ k) f. new k (omega arith) f)
 
--- types that rise have none twice, also where a test leaves some out
+-- ascending types have none twice, also where a test leaves some out
 pub filtered-fresh : (test : ℕ → Bool) (n low : ℕ) (seen : ℕ → Bool) → ((k : ℕ) → low ≤ k → test k ≡ true → seen k ≡ false) → NoneTwice seen (filter test (types_from low n))
 filtered-fresh test zero low seen new = tt
 filtered-fresh test (suc n) low seen new = fresh-by test low n seen (test low) refl new (filtered-fresh test n (low + 1))
@@ -42,7 +42,7 @@ fresh-none k seen (j ∷ ks) e none =
     (ne_eqb j k (λ (same : j ≡ k). both_ways (seen j) none.0 (ap seen same ∙ e)))
     (fresh-none k (also j seen) ks (or_right (eqb k j) (seen k) e) none.1)
 
--- fewer seen leave none twice
+-- where fewer types are seen, none is twice either
 pub fresh-fewer : (seen fewer : ℕ → Bool) (ks : List ℕ) → ((k : ℕ) → seen k ≡ false → fewer k ≡ false) → NoneTwice seen ks → NoneTwice fewer ks
 fresh-fewer seen fewer [] less none = tt
 fresh-fewer seen fewer (j ∷ ks) less none =
@@ -51,9 +51,9 @@ fresh-fewer seen fewer (j ∷ ks) less none =
 abbrev pub in_order : ℕ → Bool
 in_order k = list_any (λ j. eqb j k) canonical_order
 
--- ---- of which type an attribute is
+-- ---- the type of an attribute
 
--- an unrecognised type is none of those that are recognised
+-- an unrecognised type differs from each recognised one
 pub other_kind : (k recognised : ℕ) → is_recognised recognised ≡ true → is_recognised k ≡ false → eqb k recognised ≡ false
 other_kind k recognised e f = ne_eqb k recognised (λ (same : k ≡ recognised). both_ways (is_recognised k) f (ap is_recognised same ∙ e))
 

@@ -1,4 +1,4 @@
--- What it means that an UPDATE isn't refused, test by test.
+-- What follows where an UPDATE isn't refused, test by test.
 use Rattle.std.proofs.Common.{◌≡◌, Bool, true, false, ◌&&◌, Option, None, refl, ap, ◌∙◌}
 use Rattle.bgp_open.specs.declared.context.Context.{Context}
 use Rattle.bgp_attr.specs.Prelude.{is_too_wide, is_as4, is_empty, has_as_zero, stands_twice, is_out_of_place}

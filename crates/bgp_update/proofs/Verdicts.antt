@@ -1,4 +1,4 @@
--- What a verdict that isn't a reset says of a body: its parts, and what is taken or withdrawn of them.
+-- What a verdict that isn't a reset says of a body: its parts, and what is accepted or withdrawn of them.
 use Rattle.bgp_wire.proofs.Std.{◌≡◌, ℕ, Bool, true, false, cond, List, length, Option, Some, None, refl, subst, w16, to_be_bytes}
 use Rattle.bgp_wire.specs.Prelude.{AreOctets}
 use Rattle.bgp_wire.proofs.OctetLemmas.{AreOctets-front, AreOctets-back}

@@ -1,4 +1,4 @@
--- A valid UPDATE with AS numbers of four octets has no AS4 attribute, and what a speaker with two octets is told of it is valid there.
+-- A valid UPDATE with AS numbers of four octets has no AS4 attribute, and what is sent of it to a 2-octet-AS peer is valid there.
 use Rattle.bgp_wire.proofs.Std.{◌≡◌, ℕ, Bool, true, false, ◌&&◌, ◌||◌, cond, eqb, ltb, List, [], ◌∷◌, length, map, Option, Some, None, subst, refl, sym, ap, ◌∙◌, list_any, AllByRecursion, false≢true, or_parts, or_from, length-map}
 use Rattle.std.specs.Prelude.{option_map, is_none}
 use Rattle.std.proofs.lemmas.Bool.{true≢false, eqb-true, ne_eqb}
@@ -22,9 +22,9 @@ use Rattle.bgp_update.proofs.Lists.{none-all, all-none, all-carried, all-both}
 use Rattle.bgp_update.proofs.SlotLemmas.{slot-other, at_each, slot-types, slot-all, field-all}
 use Rattle.bgp_update.proofs.Validity.{valid-accepted, accepted-valid}
 
--- ---- what is told of the four attributes of AS numbers, and of all others
+-- ---- what is sent of the four attributes of AS numbers, and of all others
 
--- the types of which something else may be told
+-- the types whose attributes may be sent changed
 abbrev pub is_narrowed : ℕ → Bool
 is_narrowed k = eqb k AS_PATH || (eqb k AGGREGATOR || (eqb k AS4_PATH || eqb k AS4_AGGREGATOR))
 
@@ -39,7 +39,7 @@ by_narrowed P path aggregator as4_path as4_aggregator rest k = by (eqb k AS_PATH
     by false p false q false r true s = subst P (sym (eqb-true k AS4_AGGREGATOR s)) as4_aggregator
     by false p false q false r false s = rest k (or_from _ _ p (or_from _ _ q (or_from _ _ r s)))
 
--- each other slot is told as it is
+-- each other slot is sent unchanged
 pub same-slot : (a : Attrs) (k : ℕ) → is_narrowed k ≡ false → slot (narrowed a) k ≡ slot a k
 unfolding slot
 same-slot a k same = by (is_recognised k) refl
@@ -50,7 +50,7 @@ same-slot a k same = by (is_recognised k) refl
         (at_each (λ j. cond (is_narrowed j) [] (slot (narrowed a) j)) (λ j. cond (is_narrowed j) [] (slot a j)) refl k known)
     by false other = slot-other (narrowed a) k other ∙ sym (slot-other a k other)
 
--- what holds of each attribute makes something hold of each that is told
+-- a fact about each attribute implies a fact about each that is sent
 pub record Carries (P Q : Attr → Type 0) : Type 0 where
   pub as_path : (p : AsPath) → P (attr.AsPath p) → Q (attr.AsPath (narrow_path p))
   pub as4_path : (p : AsPath) → any_number is_above_two_octets p ≡ true → P (attr.AsPath p) → Q (attr.As4Path (record { partial = false; path = p }))
@@ -102,7 +102,7 @@ pub told-all : (P Q : Attr → Type 0) → Carries P Q → (a : Attrs) → AllBy
 told-all P Q told a all =
     all-carried P Q (slot a) (slot (narrowed a)) canonical_order (told-slot P Q told a (slot-all P a AS_PATH refl all) (slot-all P a AGGREGATOR refl all)) all
 
--- a test that no attribute passes, and one that none passes that is told
+-- where no attribute passes a first test, none that is sent passes the other
 told-none : (before after : Attr → Bool) → Carries (λ x. before x ≡ false) (λ x. after x ≡ false) → (a : Attrs) → list_any before (attr_list a) ≡ false → list_any after (attr_list (narrowed a)) ≡ false
 told-none before after told a none =
     all-none after (attr_list (narrowed a)) (told-all (λ x. before x ≡ false) (λ x. after x ≡ false) told a (none-all before (attr_list a) none))
@@ -119,7 +119,7 @@ map-never : {A B : Type 0} (f : A → B) (after : B → Bool) → ((x : A) → a
 map-never f after each [] = refl
 map-never f after each (x ∷ xs) = or_from (after (f x)) (list_any after (map f xs)) (each x) (map-never f after each xs)
 
--- no number is left that two octets can't hold
+-- no number is left that needs more than two octets
 number-fits : (n : AsNumber) → is_above_two_octets (narrow_number n).0 ≡ false
 number-fits n = by (is_above_two_octets n.0) refl
   where
@@ -144,7 +144,7 @@ path-nonzero p =
     map-none narrow_segment (λ s. list_any (λ n. is_zero n.0) s.numbers) (λ s. list_any (λ n. is_zero n.0) s.numbers)
     (λ s. map-none narrow_number (λ n. is_zero n.0) (λ n. is_zero n.0) number-nonzero s.numbers) p.segments
 
--- segments keep their lengths
+-- segments keep their counts
 path-filled : (p : AsPath) → list_any is_bad_segment p.segments ≡ false → list_any is_bad_segment (narrow_path p).segments ≡ false
 path-filled p =
     map-none narrow_segment is_bad_segment is_bad_segment (λ s e. ap (λ (n : ℕ). eqb n 0 || ltb 255 n) (length-map s.numbers narrow_number) ∙ e) p.segments
@@ -189,7 +189,7 @@ zero-told = record { as_path = path-nonzero; as4_path = λ p e h. h; aggregator 
 twice-told : Carries (λ x. stands_twice x ≡ false) (λ x. stands_twice x ≡ false)
 twice-told = record { as_path = λ p h. refl; as4_path = λ p e h. refl; aggregator = λ g h. refl; as4_aggregator = λ g h. refl; same = λ x e h. h }
 
--- a path is missing where it was
+-- a path is missing where it was missing
 path-missing : (o : Option AsPath) → is_none (option_map narrow_path o) ≡ is_none o
 path-missing None = refl
 path-missing (Some p) = refl
@@ -215,7 +215,7 @@ narrowed_update_is_valid ctx u wide valid =
       once = told-none stands_twice stands_twice twice-told u.attrs a.once;
     })
 
--- an attribute of AS numbers of four octets that isn't there
+-- an attribute of AS numbers of four octets that is absent
 no-path : (o : Option As4Path) → AllByRecursion (λ x. is_as4 x ≡ false) (present (λ (p : As4Path). attr.As4Path p) o) → o ≡ None
 no-path None none = refl
 no-path (Some p) none = absurd (true≢false none.0)

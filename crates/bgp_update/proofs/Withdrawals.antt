@@ -1,4 +1,4 @@
--- The UPDATE that withdraws the routes of one is no longer than that one.
+-- The UPDATE that withdraws the routes of an UPDATE is no longer than that one.
 use Rattle.bgp_wire.proofs.Std.{◌≡◌, ℕ, ◌+◌, ◌≤◌, Bool, true, false, not, cond, ltb, List, [], ◌∷◌, ◌++◌, length, Option, Some, None, refl, ap, subst, ◌∙◌, arith, filter, flat_map}
 use Rattle.std.proofs.lemmas.Grind.{flat_map-append}
 use Rattle.std.proofs.lemmas.List.{append-nil, length-append}
@@ -26,12 +26,12 @@ use Rattle.bgp_update.proofs.SlotLemmas.{slot-at}
 use Rattle.bgp_update.proofs.Taken.{run-row}
 use Rattle.bgp_update.proofs.TakenSlots.{attributes-shorter}
 
--- where there are routes, they stand behind one head
+-- where there are routes, one head precedes them
 pub some_gone : (rs later : List PrefixValue) → ltb 0 (length rs) ≡ true → gone_octets (rs ++ later) ≡ whole_unreach (unreach.Ip6 (rs ++ later))
 some_gone [] later e = absurd cc
 some_gone (r ∷ rs) later e = refl
 
--- ---- the attributes that carry routes stand first, in at least as many octets
+-- ---- all attributes have at least the octets of the two that carry routes
 
 module _ (ctx : Context) where
   abbrev size : List Attr → ℕ
@@ -90,7 +90,7 @@ module _ (ctx : Context) where
   gone-alone [] = omega arith
   gone-alone (p ∷ ps) = omega arith
 
-  -- routes that are withdrawn by MP_UNREACH_NLRI
+  -- routes withdrawn by MP_UNREACH_NLRI
   unreach-runs : (u : Option MpUnreach) → run (gone_ip4 u) + run (gone_ip6 u) ≤ size ctx (present attr.MpUnreach u)
   unreach-runs None = omega arith
   unreach-runs (Some (unreach.Ip4 ps)) = omega (arith, at-least ctx (attr.MpUnreach (unreach.Ip4 ps)), alone ctx (attr.MpUnreach (unreach.Ip4 ps)))

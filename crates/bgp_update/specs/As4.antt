@@ -1,4 +1,4 @@
--- AS numbers of four octets among speakers that have two (RFC 6793, section 4.2).
+-- AS numbers of four octets among 2-octet-AS speakers (RFC 6793, section 4.2).
 use Rattle.std.specs.Prelude.{◌≡◌, ℕ, ◌-◌, Bool, false, ◌==◌, nat_lt, List, [], ◌∷◌, ◌++◌, length, take, map, Option, None, Some, option_map, if◌then◌else◌}
 use Rattle.std.specs.List.{filter, sum_by}
 use Rattle.bgp_numbers.specs.declared.TheConstants.{AS_TRANS}
@@ -27,7 +27,7 @@ items_in s = items_by s.kind (length s.numbers)
 abbrev pub items_of : List Segment → ℕ
 items_of segments = sum_by items_in segments
 
--- what is left of k items behind a segment
+-- what is left of k items after a segment
 abbrev pub items_behind : ℕ → Segment → ℕ
 items_behind k s = k - items_in s
 
@@ -44,7 +44,7 @@ lead k (s ∷ later) = if k == 0 then [] else front_by k s.kind s.numbers ++ lea
 
 -- ---- reading: the path that both attributes give (RFC 6793, section 4.2.3)
 
--- the path of AS4_PATH, behind as many items of AS_PATH as that has more; where AS_PATH has fewer, it stands alone
+-- AS4_PATH with the surplus leading items of AS_PATH prepended; AS_PATH alone where that has fewer items than AS4_PATH
 abbrev pub joined : AsPath → AsPath → AsPath
 joined path wide =
     if nat_lt (items_of path.segments) (items_of wide.segments) then path else
@@ -59,7 +59,7 @@ rebuilt_path (Some path) (Some wide) = Some (joined path wide.path)
 abbrev pub is_as_trans : Aggregator → Bool
 is_as_trans a = (a.asn).0 == AS_TRANS
 
--- an aggregator that is no stand-in says that a speaker of two octets aggregated: what older ones wrote is void
+-- an aggregator other than AS_TRANS shows that a 2-octet-AS speaker aggregated the route later: the AS4 attributes are void
 abbrev pub rebuilt_by : Option Aggregator → Option Aggregator → Option AsPath → Option As4Path → PathInfo
 rebuilt_by (Some a) (Some wide) path as4_path =
     if is_as_trans a
@@ -70,7 +70,7 @@ rebuilt_by aggregator _ path as4_path = record { path = rebuilt_path path as4_pa
 abbrev pub rebuilt : Attrs → PathInfo
 rebuilt a = rebuilt_by a.aggregator a.as4_aggregator a.as_path a.as4_path
 
--- ---- writing: for a speaker with AS numbers of two octets (RFC 6793, section 4.2.2)
+-- ---- writing: for a 2-octet-AS peer (RFC 6793, section 4.2.2)
 
 abbrev pub narrow_number : AsNumber → AsNumber
 narrow_number n = if is_above_two_octets n.0 then as_number AS_TRANS else n
@@ -99,7 +99,7 @@ abbrev pub wide_aggregator : Option Aggregator → Option Aggregator
 wide_aggregator None = None
 wide_aggregator (Some a) = as4_aggregator_for a
 
--- the attributes as such a speaker is told them
+-- the attributes as sent to such a peer
 abbrev pub narrowed : Attrs → Attrs
 narrowed a = record a {
   as_path = option_map narrow_path a.as_path;
@@ -108,18 +108,18 @@ narrowed a = record a {
   as4_aggregator = wide_aggregator a.aggregator;
 }
 
--- the UPDATE as a speaker with AS numbers of two octets is told it
+-- the UPDATE as sent to a 2-octet-AS peer
 abbrev pub narrowed_update : Update → Update
 narrowed_update u = record u { attrs = narrowed u.attrs }
 
--- neither AS4_PATH nor AS4_AGGREGATOR is there
+-- neither AS4_PATH nor AS4_AGGREGATOR is present
 pub record HasNoAs4 (a : Attrs) : Type 0 where
   pub path : a.as4_path ≡ None
   pub aggregator : a.as4_aggregator ≡ None
 
 -- ---- what is passed on (RFC 4271, section 5)
 
--- attributes of unrecognised types go on only where they are transitive
+-- attributes of unrecognised types are passed on only where they are transitive
 abbrev pub onward_attrs : Attrs → Attrs
 onward_attrs a = record a { others = filter (λ o. o.transitive) a.others }
 

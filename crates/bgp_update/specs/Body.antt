@@ -1,4 +1,4 @@
--- What borrowed parts of a body are.
+-- The parts of a borrowed body.
 use Rattle.bgp_update.specs.declared.body.Body.{Body}
 use Rattle.bgp_update.specs.Parts.{Parts}
 

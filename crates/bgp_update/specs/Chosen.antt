@@ -1,4 +1,4 @@
--- The attributes that are chosen of an UPDATE.
+-- The chosen attributes of an UPDATE: without those of the types that are left out.
 use Rattle.std.specs.Prelude.{not, List}
 use Rattle.std.specs.List.{filter}
 use Rattle.bgp_wire.specs.Prelude.{has_octet}

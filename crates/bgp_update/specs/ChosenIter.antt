@@ -1,4 +1,4 @@
--- What an iterator of chosen attributes has left.
+-- The chosen attributes that an iterator has left.
 use Rattle.std.specs.Prelude.{List}
 use Rattle.std.specs.List.{flat_map}
 use Rattle.bgp_attr.specs.declared.attr.Attr.{Attr}

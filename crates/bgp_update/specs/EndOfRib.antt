@@ -21,14 +21,14 @@ family_of_kept [] = None
 family_of_kept (a ∷ []) = bare_family a
 family_of_kept _ = None
 
--- no attribute stands in the field, or one, which is kept
+-- the field has no attribute, or a single one, which is kept
 abbrev pub family_of_marks : List Mark → Option ℕ
 family_of_marks [] = Some IPV4
 family_of_marks (m ∷ []) = family_of_kept (kept_of (m ∷ []))
 family_of_marks _ = None
 
--- The family whose End-of-RIB the message is: that of IPv4 is the empty UPDATE, in every context since its fields are read in every one; that of a family
--- in use has MP_UNREACH_NLRI without routes as its only attribute. Neither has anything else.
+-- The family whose End-of-RIB the message is: IPv4 for the empty UPDATE, in every context since its fields are always read; another family in use
+-- where MP_UNREACH_NLRI without routes is the only attribute. Neither has anything else.
 abbrev pub end_of_rib : Context → Parts → Option ℕ
 end_of_rib ctx p =
     if (length p.withdrawn == 0) && (length p.nlri == 0) then family_of_marks (marks_of ctx p) else None

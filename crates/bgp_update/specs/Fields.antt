@@ -1,4 +1,4 @@
--- The fields of a message's attributes: one for each recognised type, made of an attribute of it, and its attribute again.
+-- The fields of a message's attributes: one for each recognised type, filled from an attribute of it, and the attribute of a field.
 use Rattle.std.specs.Prelude.{ℕ, Bool, true, false, List, [], ◌∷◌, Option, None, Some, is_some, if◌then◌else◌}
 use Rattle.bgp_numbers.specs.declared.attribute.TheConstants as attribute
 use Rattle.bgp_wire.specs.Prelude.{◌>>=◌}
@@ -13,7 +13,7 @@ use Rattle.bgp_attr.specs.declared.path.As4Path.{As4Path}
 use Rattle.bgp_attr.specs.declared.path.AsPath.{AsPath}
 use Rattle.bgp_update.specs.declared.attrs.Attrs.{Attrs}
 
--- ---- the value of an attribute, where it is of this type: of those that are asked for elsewhere too
+-- ---- the value of an attribute, where it is of this type: of those that are needed elsewhere too
 
 abbrev pub as_as_path : Attr → Option AsPath
 as_as_path = elim [ attr.AsPath p ↦ Some p | _ ↦ None ]

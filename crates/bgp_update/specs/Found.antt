@@ -1,4 +1,4 @@
--- Attributes of unrecognised types that are found by their type, where there are some.
+-- Attributes of unrecognised types, found by their type, where there are some.
 use Rattle.std.specs.Prelude.{◌≡◌, ◌==◌, ℕ, List, Option, None, Some}
 use Rattle.std.specs.List.{find}
 use Rattle.bgp_attr.specs.declared.opaque.Opaque.{Opaque}

@@ -1,4 +1,4 @@
--- What iterators of kept attributes and of notes have left.
+-- The kept attributes and the notes that iterators have left.
 use Rattle.std.specs.Prelude.{List, ◌++◌}
 use Rattle.std.specs.List.{flat_map}
 use Rattle.bgp_attr.specs.declared.attr.Attr.{Attr}

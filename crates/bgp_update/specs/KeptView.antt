@@ -1,4 +1,4 @@
--- The kept attributes of a message by type: while their values lie in octets, and as they come one after another.
+-- The kept attributes of a message by type, while their values are borrowed, and as they are found one after another.
 use Rattle.std.specs.Prelude.{◌≡◌, ℕ, Bool, not, ◌||◌, ◌==◌, List, [], map, Option, option_map, slice_index_or}
 use Rattle.std.specs.List.{list_any}
 use Rattle.std.specs.Option.{option_or}
@@ -18,7 +18,7 @@ pub record Kept : Type 0 where
   pub known : ℕ → Option Attr
   pub others : Bool
 
--- but for those of unrecognised types
+-- without those of unrecognised types
 abbrev pub known_of : Attrs → Attrs
 known_of a = record a { others = [] }
 
@@ -43,7 +43,7 @@ attrs_with kept others = with_others kept (map opaque_value others)
 abbrev pub kept_value : KeptView → Kept
 kept_value k = record { known = kept_attr k; others = k.others }
 
--- the same, where these are the octets of each type
+-- the same, with these octets for each type
 abbrev pub kept_with : KeptView → (ℕ → Option TlvValue) → Kept
 kept_with k tlv = record { known = λ kind. option_map (λ t. (type_row k.ctx k.has_nlri t).value) (tlv kind); others = k.others }
 
@@ -51,7 +51,7 @@ kept_with k tlv = record { known = λ kind. option_map (λ t. (type_row k.ctx k.
 abbrev pub saw : KeptView → ℕ → Bool
 saw k = λ kind. not (slice_index_or k.places kind 0 == 0)
 
--- the attributes that are kept are those of a field that is judged in a context
+-- the kept attributes are those of a field that is judged in a context
 abbrev pub AreOf : KeptView → Context → Bool → List ℕ → Type 0
 AreOf k ctx has_nlri field = (k.ctx ≡ ctx) × (k.has_nlri ≡ has_nlri) × (k.field.now ≡ field)
 
@@ -59,6 +59,6 @@ AreOf k ctx has_nlri field = (k.ctx ≡ ctx) × (k.has_nlri ≡ has_nlri) × (k.
 abbrev pub kept_in : List Attr → Kept
 kept_in kept = record { known = first_known kept; others = list_any is_opaque kept }
 
--- more attributes behind those that are there: the first of a type stands
+-- more attributes after those before: the first of a type is kept
 abbrev pub kept_behind : Kept → List Attr → Kept
 kept_behind k kept = record { known = λ kind. option_or (k.known kind) (first_known kept kind); others = k.others || list_any is_opaque kept }

@@ -1,4 +1,4 @@
--- What the laws of UPDATEs say of one that was taken.
+-- What the laws of UPDATEs say of an accepted one.
 use Rattle.std.specs.Prelude.{◌≡◌, ◌≤◌, ◌==◌, ℕ, Bool, true, false, List, ◌∷◌, ◌++◌, length, None}
 use Rattle.std.specs.List.{list_any}
 use Rattle.bgp_open.specs.declared.context.Context.{Context}
@@ -18,16 +18,16 @@ pub record CanBeWritten (ctx : Context) (u : Update) (body : List ℕ) : Type 0 
 
 -- ---- attributes that are repeated (RFC 7606, section 3, item g)
 
--- a whole attribute of this type stands among these
+-- a whole attribute of this type is among these
 abbrev pub stands_in : ℕ → List PlacedTlv → Bool
 stands_in kind ps = list_any (λ p. p.tlv.kind == kind) ps
 
--- an attribute is discarded because one of its type stands before it
+-- an attribute is discarded because one of its type precedes it
 abbrev pub IsRepeated : Judged → Type 0
 IsRepeated j = j ≡ judged.Discard why.Repeated
 
--- What is said of the mark of a whole attribute behind these others of its field: it is repeated where one of its type stands before it, and only
--- there, but for the two types that carry routes, for which the session is reset then
+-- The mark of a whole attribute after these others of its field: it is repeated where one of its type precedes it, and only
+-- there, except for the two types that carry routes, for which the session is reset then
 pub record IsMarkBehind (before : List PlacedTlv) (p : PlacedTlv) (m : Mark) : Type 0 where
   pub at : m.at ≡ p.at
   pub kind : m.kind ≡ p.tlv.kind
@@ -35,7 +35,7 @@ pub record IsMarkBehind (before : List PlacedTlv) (p : PlacedTlv) (m : Mark) : T
   pub only : IsRepeated m.judged → (stands_in p.tlv.kind before ≡ true) × (carries_routes p.tlv.kind ≡ false)
   pub routes : stands_in p.tlv.kind before ≡ true → carries_routes p.tlv.kind ≡ true → m.judged ≡ judged.Reset malformed
 
--- a field has such a mark at the place of the attribute behind these others
+-- a field has such a mark for the attribute after these others
 pub record HasMarkBehind (ctx : Context) (has_nlri : Bool) (field : List ℕ) (before : List PlacedTlv) (p : PlacedTlv) : Type 0 where
   pub earlier : List Mark
   pub mark : Mark

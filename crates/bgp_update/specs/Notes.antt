@@ -46,14 +46,14 @@ has_routes r = nat_lt 0 (length (reached_ip4 r)) || nat_lt 0 (length (reached_ip
 abbrev pub is_reachable : Parts → List Mark → Bool
 is_reachable p marks = has_nlri p || has_routes (attrs_of (kept_of marks)).mp_reach
 
--- whether an attribute of a type stands in a field, however it is judged
+-- whether an attribute of a type is in a field, however it is judged
 abbrev pub types_of_field : List ℕ → ℕ → Bool
 types_of_field field = λ kind. list_any (λ q. q.tlv.kind == kind) (placed_tlvs field)
 
 abbrev pub has_type : ℕ → Parts → Bool
 has_type kind p = types_of_field p.attributes kind
 
--- which of ORIGIN, AS_PATH and NEXT_HOP a message that announces routes hasn't: NEXT_HOP is for NLRI alone
+-- which of ORIGIN, AS_PATH and NEXT_HOP a message that announces routes lacks: NEXT_HOP is required for NLRI only
 abbrev pub missing_in : Bool → Bool → (ℕ → Bool) → Missing
 missing_in reaches nlri types = record {
   origin = reaches && not (types ORIGIN);
@@ -69,24 +69,24 @@ is_missing m = m.origin || (m.as_path || m.next_hop)
 
 -- ---- notes
 
--- why an attribute is discarded, where the session goes on
+-- why an attribute isn't kept, where the session continues
 abbrev pub why_not : Judged → List Why
 why_not (judged.Discard w) = w ∷ []
 why_not (judged.Withdraw w) = w ∷ []
 why_not _ = []
 
--- the note of a mark: its place in the body
+-- the note of a mark, with its offset in the body
 abbrev pub mark_notes : ℕ → Mark → List Note
 mark_notes field_at m = map (λ w. record { at = field_at + m.at; kind = m.kind; why = w }) (why_not m.judged)
 
 abbrev pub missing_note : Bool → ℕ → List Note
 missing_note missing kind = if missing then record { at = 0; kind = kind; why = why.Missing } ∷ [] else []
 
--- rising in type
+-- ascending by type
 abbrev pub missing_notes : Missing → List Note
 missing_notes m = missing_note m.origin ORIGIN ++ (missing_note m.as_path AS_PATH ++ missing_note m.next_hop NEXT_HOP)
 
--- each attribute that wasn't kept, by place, the one that is cut off, and then what is missing
+-- each attribute that wasn't kept, by offset, the one that is cut off, and then what is missing
 abbrev pub notes_of : Parts → List Mark → List Note
 notes_of p marks = flat_map (mark_notes (attributes_at p)) marks ++ missing_notes (missing_of p marks)
 

@@ -1,4 +1,4 @@
--- What a borrowed path, and who aggregated, are.
+-- The values of a borrowed path and aggregator.
 use Rattle.std.specs.Prelude.{List, ◌++◌, option_map}
 use Rattle.bgp_attr.specs.Prelude.{path_value, segments_left}
 use Rattle.bgp_attr.specs.declared.path.Segment.{Segment}
@@ -13,7 +13,7 @@ use Rattle.bgp_update.specs.declared.path_info_view.PathInfoView.{PathInfoView}
 abbrev pub joined_value : JoinedPathView → AsPath
 joined_value p = record { segments = lead p.items (path_value p.leading).segments ++ (path_value p.behind).segments }
 
--- the segments still to come
+-- the segments not yet returned
 abbrev pub joined_left : JoinedSegmentIter → List Segment
 joined_left it = lead it.items (segments_left it.leading) ++ segments_left it.behind
 

@@ -1,4 +1,4 @@
--- The names that other crates and the proofs cite, passed on from one place. Declares nothing.
+-- Re-exports the names that other crates and the proofs cite. Declares nothing.
 pub use Rattle.bgp_update.specs.Parts.{IsBody, Parts, attributes_at, behind_two}
 unfoldable pub use Rattle.bgp_update.specs.Parts.{parts_of}
 pub use Rattle.bgp_update.specs.Marks.{Mark, carries_routes, cut, cut_kind, cut_mark, judged_behind, malformed, marks_behind, marks_of, placed_tlvs, repeated}

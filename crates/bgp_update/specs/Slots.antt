@@ -1,5 +1,5 @@
 -- The attributes of a message in the order in which they are written: MP_REACH_NLRI, MP_UNREACH_NLRI (RFC 7606, section 5.1), and
--- then all others, rising in type.
+-- then all others, ascending by type.
 use Rattle.std.specs.Prelude.{ℕ, zero, suc, ◌+◌, not, ◌==◌, List, [], ◌∷◌}
 use Rattle.std.specs.List.{flat_map, filter, find}
 use Rattle.bgp_numbers.specs.declared.attribute.TheConstants.{MP_REACH_NLRI, MP_UNREACH_NLRI}
@@ -14,7 +14,7 @@ use Rattle.bgp_update.specs.Marks.{carries_routes}
 unfoldable pub slot : Attrs → ℕ → List Attr
 slot a kind = entry_of kind (slots a) (present attr.Opaque (find (λ o. o.kind == kind) a.others))
 
--- so many types, rising from one
+-- n types, ascending from one
 abbrev pub types_from : ℕ → ℕ → List ℕ
 types_from kind zero = []
 types_from kind (suc n) = kind ∷ types_from (kind + 1) n

@@ -1,4 +1,4 @@
--- All marks of a field in sum: steps of the verdict, which private functions cite.
+-- The summary of all marks of a field: steps of the verdict, which private functions cite.
 use Rattle.std.specs.Prelude.{◌≡◌, ℕ, ◌-◌, Bool, true, false, ◌||◌, List, [], ◌∷◌, ◌++◌, length, Option, option_map, if◌then◌else◌}
 use Rattle.std.specs.List.{list_any}
 use Rattle.std.specs.Option.{option_or}
@@ -18,7 +18,7 @@ use Rattle.bgp_update.specs.Marks.{Mark, marks_behind, cut_mark}
 use Rattle.bgp_update.specs.Taken.{kept_of}
 use Rattle.bgp_update.specs.Verdict.{first_reset, withdraws}
 
--- there is a note on it
+-- it has a note
 abbrev pub is_noted : Judged → Bool
 is_noted (judged.Discard w) = true
 is_noted (judged.Withdraw w) = true
@@ -38,7 +38,7 @@ summary_value s = record {
   kept = kept_value s.kept;
 }
 
--- with more marks behind those that it is of
+-- with more marks after those summarised
 abbrev pub summary_behind : SummaryValue → List Mark → SummaryValue
 summary_behind s marks = record {
   reset = option_or s.reset (first_reset marks);
@@ -47,7 +47,7 @@ summary_behind s marks = record {
   kept = kept_behind s.kept (kept_of marks);
 }
 
--- with one more attribute as it is judged
+-- with one more attribute, judged so
 abbrev pub Adds : Summary → Judged → Summary → Type 0
 Adds s judged t = (m : Mark) → m.judged ≡ judged → summary_value t ≡ summary_behind (summary_value s) (m ∷ [])
 
@@ -55,7 +55,7 @@ Adds s judged t = (m : Mark) → m.judged ≡ judged → summary_value t ≡ sum
 abbrev pub seen_by : KeptView → OctetSet → ℕ → Bool
 seen_by k others = λ kind. if is_recognised kind then saw k kind else has_octet others kind
 
--- the marks of a field from where it is walked to, behind attributes of these types
+-- the marks of a field from where the loop is, after attributes of these types
 abbrev pub marks_ahead : Context → Bool → List ℕ → (ℕ → Bool) → TlvIter → List Mark
 marks_ahead ctx nlri field seen it = marks_behind ctx nlri seen (tlvs_left it) ++ cut_mark (length field - length (rest_left it)) (rest_left it)
 

@@ -1,4 +1,4 @@
--- What is taken of a message: for each type the value that was kept.
+-- What is accepted of a message: for each type the value that was kept.
 use Rattle.std.specs.Prelude.{ℕ, not, ◌&&◌, ◌==◌, nat_lt, List, [], ◌∷◌, Option, if◌then◌else◌}
 use Rattle.std.specs.List.{flat_map, find}
 use Rattle.bgp_prefix.specs.Prelude.{run_of}
@@ -21,18 +21,18 @@ kept_by _ = []
 abbrev pub kept_of : List Mark → List Attr
 kept_of marks = flat_map (λ m. kept_by m.judged) marks
 
--- one more attribute of an unrecognised type, in its place by type
+-- one more attribute of an unrecognised type, inserted by its type
 abbrev pub put_rising : Opaque → List Opaque → List Opaque
 put_rising o [] = o ∷ []
 put_rising o (p ∷ ps) = if nat_lt p.kind o.kind then p ∷ put_rising o ps else o ∷ p ∷ ps
 
 -- ---- the attributes by type
 
--- the first attribute of a type, where it is recognised: the first of a type stands, and no field keeps two
+-- the first attribute of a type, where it is recognised: the first is kept, and no field keeps two
 abbrev pub first_known : List Attr → ℕ → Option Attr
 first_known kept kind = find (λ a. not (is_opaque a) && (type_of a == kind)) kept
 
--- behind those that are there, each in its place by type
+-- each inserted by its type among those before
 abbrev pub rising_behind : List Opaque → List Opaque → List Opaque
 rising_behind there [] = there
 rising_behind there (o ∷ os) = rising_behind (put_rising o there) os

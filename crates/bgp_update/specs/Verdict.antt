@@ -25,25 +25,25 @@ abbrev pub first_reset : List Mark → Option Notification
 first_reset [] = None
 first_reset (m ∷ later) = option_or (reset_by m.judged) (first_reset later)
 
--- a reset of code 3, subcode 10 (Invalid Network Field), without information
+-- a reset of code 3, subcode 10 (Invalid Network Field), without data
 abbrev pub bad_network : Notification
 bad_network = record { code = UPDATE_MESSAGE; subcode = INVALID_NETWORK_FIELD; info = record { items = [] } }
 
--- octets that aren't IPv4 prefixes alone
+-- for octets that aren't only IPv4 prefixes
 abbrev pub reset_of_run : List ℕ → Option Notification
 reset_of_run b = if length (run_of 4 b).1 == 0 then None else Some bad_network
 
--- attributes from the left, with the one that is cut off last, then Withdrawn Routes, then NLRI
+-- attributes in their order, with the one that is cut off last, then Withdrawn Routes, then NLRI
 abbrev pub reset_of : Parts → List Mark → Option Notification
 reset_of p marks = option_or (first_reset marks) (option_or (reset_of_run p.withdrawn) (reset_of_run p.nlri))
 
--- ---- withdraw or take
+-- ---- treated as a withdrawal, or accepted
 
 abbrev pub withdraws : Judged → Bool
 withdraws (judged.Withdraw w) = true
 withdraws _ = false
 
--- an attribute asks for it, or one is missing
+-- an attribute calls for it, or a mandatory one is missing
 abbrev pub is_withdrawn : Parts → List Mark → Bool
 is_withdrawn p marks = list_any (λ m. withdraws m.judged) marks || is_missing (missing_of p marks)
 
@@ -69,7 +69,7 @@ of_parts ctx (Some p) = verdict_on p (marks_of ctx p)
 abbrev pub verdict_of : Context → List ℕ → Verdict
 verdict_of ctx body = of_parts ctx (parts_of body)
 
--- a verdict that takes memory: it is no reset
+-- a verdict with a value, whose allocation may fail: any but a reset
 abbrev pub has_value : Verdict → Bool
 has_value (verdict.Reset n) = false
 has_value _ = true

@@ -1,4 +1,4 @@
--- What a borrowed UPDATE is.
+-- The values of a borrowed UPDATE.
 use Rattle.std.specs.Prelude.{List}
 use Rattle.bgp_attr.specs.declared.opaque.Opaque.{Opaque}
 use Rattle.bgp_frame.specs.Prelude.{notification_of_view}
@@ -22,11 +22,11 @@ use Rattle.bgp_update.specs.Taken.{update_of}
 abbrev pub view_marks : UpdateView → List Mark
 view_marks v = marks_of v.ctx (parts_value v.body)
 
--- what it says with the attributes that are kept
+-- its value with the attributes that are kept
 abbrev pub update_value : UpdateView → Update
 update_value v = update_of (parts_value v.body) (view_marks v)
 
--- with the attributes of its slots, and these others
+-- its value with the attributes of its slots, and these others
 abbrev pub update_among : UpdateView → List Opaque → Update
 update_among v others = record (update_value v) { attrs = with_others v.summary.kept others }
 
@@ -41,7 +41,7 @@ view_value (view.Take v) = verdict.Take (update_value v) (notes_value v)
 view_value (view.Withdraw v) = verdict.Withdraw (routes_value v) (notes_value v)
 view_value (view.Reset n) = verdict.Reset n
 
--- the verdict, where the view stands in a place beside it
+-- the verdict, where the view is in a buffer beside it
 abbrev pub found_value : Found → UpdateView → Verdict
 found_value found.Take v = verdict.Take (update_value v) (notes_value v)
 found_value found.Withdraw v = verdict.Withdraw (routes_value v) (notes_value v)

@@ -1,4 +1,4 @@
--- Sessions that differ in the width of their AS numbers alone (RFC 6793).
+-- Sessions that differ only in the width of their AS numbers (RFC 6793).
 use Rattle.std.specs.Prelude.{Bool}
 use Rattle.bgp_open.specs.declared.context.Context.{Context}
 

@@ -27,7 +27,7 @@ body_octets withdrawn attributes nlri = to_be_bytes w16 (length withdrawn) ++ (w
 abbrev pub written_body : Context → Update → List ℕ
 written_body ctx u = body_octets (run_octets u.withdrawn) (attributes_octets ctx u.attrs) (run_octets u.nlri)
 
--- the whole message, of 19 octets more, can have at most 4096
+-- the whole message, with 19 octets of header, has at most 4096
 abbrev pub is_too_long : Context → Update → Bool
 is_too_long ctx u = nat_lt 4077 (length (written_body ctx u))
 
@@ -52,7 +52,7 @@ has_needless_next_hop u = is_some u.attrs.next_hop && not (has_nlri u)
 abbrev pub has_outside_preference : Context → Update → Bool
 has_outside_preference ctx u = is_some u.attrs.local_pref && not ctx.internal
 
--- 8: types that don't rise, or that are recognised
+-- 8: types that aren't ascending, or that are recognised
 abbrev pub rise_behind : ℕ → List Opaque → Bool
 rise_behind kind [] = true
 rise_behind kind (o ∷ os) = nat_lt kind o.kind && rise_behind o.kind os

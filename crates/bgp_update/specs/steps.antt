@@ -1,4 +1,4 @@
--- What only private functions cite: steps of proofs, which nobody has to believe.
+-- Definitions that only private functions cite: steps of proofs, which nobody has to trust.
 pub mod Small
 pub mod Others
 pub mod Failed

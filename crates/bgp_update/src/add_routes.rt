@@ -7,7 +7,7 @@ use bgp_prefix::{Prefix, PrefixIter};
 use bgp_wire::List;
 use std::alloc::{AllocError, Global};
 
-/// Adds prefixes.
+/// Appends prefixes.
 pub(crate) fn add_routes<const W: usize>(
     routes: PrefixIter<'_, W>,
     to: &mut Vec<Prefix<W>>,
@@ -21,7 +21,7 @@ pub(crate) fn add_routes<const W: usize>(
     Ok(())
 }
 
-/// Prefixes in a list of their own, which has room for these alone.
+/// Prefixes in a list of their own, with the capacity for exactly these.
 pub(crate) fn own_routes<const W: usize>(
     alloc: Global,
     routes: PrefixIter<'_, W>,

@@ -20,7 +20,7 @@ fn items_in(segment: &Segment) -> u128
     }
 }
 
-/// The items of a path: in 128 bits, since those of all segments may be more than a `usize` holds.
+/// The items of a path: in 128 bits, since those of all segments together may exceed a `usize`.
 pub(crate) fn items_of(segments: &[Segment]) -> u128
     ensures { result ≡ items_of segments.now }
 {
@@ -47,7 +47,7 @@ fn first_numbers(
     Ok(List::from_vec(Vec::from_slice(alloc, &numbers[..end])?))
 }
 
-/// Adds the first items of a segment: a set whole, a sequence as far as they go.
+/// Appends the first items of a segment: a set whole, a sequence as far as they go.
 fn add_front(
     alloc: Global,
     items: u128,
@@ -68,7 +68,7 @@ fn add_front(
     Ok(())
 }
 
-/// Adds the first items of a path, in their segments.
+/// Appends the first items of a path, in their segments.
 pub(crate) fn add_lead(
     alloc: Global,
     items: u128,
@@ -88,7 +88,7 @@ pub(crate) fn add_lead(
     Ok(())
 }
 
-/// Adds equal segments.
+/// Appends equal segments.
 pub(crate) fn add_copies(
     alloc: Global,
     segments: &[Segment],

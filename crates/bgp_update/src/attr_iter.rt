@@ -9,7 +9,7 @@ use crate::mark::MarkIter;
 use bgp_attr::{AttrView, FoundAttr};
 use std::iter::FusedIterator;
 
-/// The attributes of a message that are kept, by offset. It takes no memory.
+/// The attributes of a message that are kept, by offset. It allocates nothing.
 #[derive(Clone, Copy)]
 pub struct AttrIter<'a> {
     marks: MarkIter<'a>,
@@ -26,7 +26,7 @@ impl<'a> AttrIter<'a> {
     }
 }
 
-/// The first attribute that is kept: the marks behind it are left.
+/// The first attribute that is kept: the marks after it are left.
 fn first_kept<'a>(marks: &mut MarkIter<'a>) -> Option<AttrView<'a>>
     ensures { MatchOption result ((kept_of (marks_left marks.old) ≡ []) × (kept_of (marks_left marks.new) ≡ []))
         (λ a. kept_of (marks_left marks.old) ≡ attr_value a ∷ kept_of (marks_left marks.new)) }

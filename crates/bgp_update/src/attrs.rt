@@ -42,14 +42,14 @@ pub struct Attrs {
     pub as4_aggregator: Option<Aggregator>,
     /// LARGE_COMMUNITY.
     pub large: Option<LargeCommunities>,
-    /// Those of types that aren't recognised, rising in type.
+    /// Those of types that aren't recognised, ascending by type.
     pub others: List<Opaque>,
 }
 
 /// The recognised types in the order in which they are written.
 pub(crate) const RECOGNISED: [u8; 13] = [14, 15, 1, 2, 3, 4, 5, 6, 7, 8, 17, 18, 32];
 
-/// What is copied where there is something.
+/// A copy of an optional value.
 macro_rules! copied {
     ($value:expr, $alloc:expr) => {
         match $value {
@@ -81,7 +81,7 @@ impl Attrs {
         Ok((communities, large))
     }
 
-    /// Routes that come and go.
+    /// Announced and withdrawn routes.
     fn copy_routes(&self, alloc: Global) -> Result<(Option<MpReach>, Option<MpUnreach>), AllocError>
         ensures { IfOk result (λ p. (p.0 ≡ self.now.mp_reach) × (p.1 ≡ self.now.mp_unreach)) }
     {
@@ -90,7 +90,7 @@ impl Attrs {
         Ok((mp_reach, mp_unreach))
     }
 
-    /// The attributes that take no memory, and these others.
+    /// The attributes that need no allocation, and these others.
     #[inline(always)]
     fn values(&self, others: List<Opaque>) -> Attrs
         ensures { result ≡ record (self.now) { as_path = None; communities = None; mp_reach = None; mp_unreach = None; as4_path = None; large = None; others = others } }
@@ -107,7 +107,7 @@ impl Attrs {
         }
     }
 
-    /// With what takes memory. It is inlined, since it is built where it is to stand then.
+    /// With the attributes that need an allocation. It is inlined so that the value is built where it is returned.
     #[inline(always)]
     pub(crate) fn with(
         self,
@@ -158,7 +158,7 @@ fn other(others: &[Opaque], kind: u8) -> Option<&Opaque>
     None
 }
 
-/// An attribute where there is something: a match, since `?` is two calls more to a proof.
+/// An attribute of an optional value: a `match`, since `?` costs the proof two more calls.
 macro_rules! some {
     ($value:expr, $Variant:ident) => {
         match $value {

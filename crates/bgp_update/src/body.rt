@@ -11,7 +11,7 @@ pub(crate) struct Body<'a> {
     pub(crate) nlri: &'a [u8],
 }
 
-/// The octets behind a length of two octets, and what follows them.
+/// The octets after a length of two octets, and what follows them.
 fn split_behind(octets: &[u8]) -> Option<(&[u8], &[u8])>
     ensures { option_map (λ x. (x.0.now, x.1.now)) result ≡ behind_two octets.now }
 {

@@ -1,4 +1,4 @@
-//! Writing the body of an UPDATE from its routes and from whatever has its attributes by type.
+//! Writing the body of an UPDATE from its routes and from any source of its attributes by type.
 
 ghost use Rattle.std.specs.Prelude.{◌≡◌, ◌<◌, ◌+◌, ◌≤◌, ◌++◌, true, length, IfOk, OnOk, OnErr};
 ghost use Rattle.std.specs.List.{flat_map, AllByRecursion};
@@ -14,7 +14,7 @@ use bgp_prefix::PrefixIter4;
 use bgp_wire::Output;
 use std::alloc::AllocError;
 
-/// What has the attributes of an UPDATE, each by its type.
+/// A source of the attributes of an UPDATE, each by its type.
 pub trait HasAttributes<'a> {
     ghost use Rattle.std.specs.Prelude.{◌≡◌};
     ghost use Rattle.std.specs.List.{flat_map};
@@ -30,7 +30,7 @@ pub trait HasAttributes<'a> {
     fn attribute(&self, kind: u8) -> Option<AttrView<'a>>
         ensures { present attr_value result ≡ slot (attrs self.now) kind };
 
-    /// The types that the attributes can have, in the order in which they are written: no more than need be looked at.
+    /// The types to look at, in the order in which they are written: each attribute has one of them.
     fn types(&self) -> &'static [u8]
         ensures { flat_map (slot (attrs self.now)) result.now ≡ attr_list (attrs self.now) };
 }
@@ -46,7 +46,7 @@ pub struct ClassicRoutes<'a> {
     pub nlri: PrefixIter4<'a>,
 }
 
-/// Adds the attribute of a type, where there is one.
+/// Appends the attribute of a type, where there is one.
 fn put_attribute<'a, S: HasAttributes<'a>, O: Output>(
     ctx: &Context,
     attrs: &S,
@@ -64,7 +64,7 @@ fn put_attribute<'a, S: HasAttributes<'a>, O: Output>(
     }
 }
 
-/// Adds the attributes; some octets may stay where there was no room.
+/// Appends the attributes; after an error some octets may remain.
 fn put_attributes<'a, S: HasAttributes<'a>, O: Output>(
     ctx: &Context,
     attrs: &S,
@@ -82,7 +82,7 @@ fn put_attributes<'a, S: HasAttributes<'a>, O: Output>(
     Ok(())
 }
 
-/// Adds the withdrawn routes.
+/// Appends the withdrawn routes.
 fn put_withdrawn<O: Output>(routes: &ClassicRoutes<'_>, out: &mut O) -> Result<(), AllocError>
     ensures ok { OnOk result (O.written out.new ≡ O.written out.old ++ run_octets (prefixes_left routes.now.withdrawn ++ prefixes_left routes.now.gone)) }
     ensures err { OnErr result (Extends (O.written out.old) (O.written out.new)
@@ -92,7 +92,7 @@ fn put_withdrawn<O: Output>(routes: &ClassicRoutes<'_>, out: &mut O) -> Result<(
     routes.gone.write(out)
 }
 
-/// Adds the parts of a body, and room for the lengths of the first two; some octets may stay where there was no room.
+/// Appends the parts of a body, and room for the lengths of the first two; after an error some octets may remain.
 fn put_parts<'a, S: HasAttributes<'a>, O: Output>(
     ctx: &Context,
     routes: &ClassicRoutes<'a>,

@@ -1,4 +1,4 @@
-//! Attributes of types that aren't recognised, by type: in a place of the caller's, without memory.
+//! Attributes of types that aren't recognised, by type: in a caller-provided buffer, without memory.
 
 ghost use Rattle.std.specs.Prelude.{◌≡◌, ◌==◌, List, [], length, option_map};
 ghost use Rattle.std.specs.List.{find, flat_map};
@@ -9,13 +9,13 @@ ghost use Rattle.bgp_update.specs.Prelude.{IsByType, attrs_left, put_rising, as_
 use crate::attr_iter::AttrIter;
 use bgp_attr::{AttrView, OpaqueView};
 
-/// A place for attributes of types that aren't recognised, each at its type.
+/// A buffer for attributes of types that aren't recognised, each at its type.
 #[derive(Clone, Copy)]
 pub struct ByType<'a> {
     pub(crate) of_type: [Option<OpaqueView<'a>>; 256],
 }
 
-/// There is a place for each type.
+/// The buffer has an entry for each type.
 pub(crate) fn are_all_types(of_type: &[Option<OpaqueView<'_>>; 256])
     ensures { length of_type.now ≡ 256 }
 {
@@ -23,7 +23,7 @@ pub(crate) fn are_all_types(of_type: &[Option<OpaqueView<'_>>; 256])
 }
 
 impl<'a> ByType<'a> {
-    /// A place with nothing in it.
+    /// An empty buffer.
     #[inline(always)]
     pub fn new() -> ByType<'a>
         ensures { IsByType result [] }
@@ -33,7 +33,7 @@ impl<'a> ByType<'a> {
         }
     }
 
-    /// Puts an attribute at its type.
+    /// Stores an attribute at its type.
     #[inline(always)]
     fn put(&mut self, opaque: OpaqueView<'a>)
         ensures { (there : List Opaque) → IsByType self.old there → IsByType self.new (put_rising (opaque_value opaque.entry) there) }
@@ -43,7 +43,7 @@ impl<'a> ByType<'a> {
         self.of_type[usize::from(kind)] = Some(opaque);
     }
 
-    /// Puts an attribute at its type, where that isn't recognised.
+    /// Stores an attribute at its type, where that isn't recognised.
     #[inline(always)]
     fn add(&mut self, attr: AttrView<'a>)
         ensures { (there : List Opaque) → IsByType self.old there → IsByType self.new (rising_behind there (as_opaque (attr_value attr.entry))) }
@@ -54,7 +54,7 @@ impl<'a> ByType<'a> {
         }
     }
 
-    /// Puts those among attributes that are kept.
+    /// Stores those among kept attributes.
     pub(crate) fn fill(&mut self, kept: AttrIter<'a>)
         requires { IsByType self.old [] }
         ensures { IsByType self.new (rising_behind [] (flat_map as_opaque (attrs_left kept.entry))) }

@@ -14,8 +14,8 @@ use crate::view::UpdateView;
 use bgp_attr::{AttrView, OpaqueView};
 use bgp_wire::OctetSet;
 
-/// The attributes that are kept of an UPDATE, without those of types that aren't recognised that are left out. Those that stay are found by their
-/// type in one step.
+/// The kept attributes of an UPDATE, without those of the unrecognised types that are left out. The unrecognised ones that stay are found
+/// by their type in one step.
 #[derive(Clone, Copy)]
 pub struct Chosen<'b, 'a> {
     pub(crate) view: &'b UpdateView<'a>,
@@ -34,7 +34,7 @@ impl<'b, 'a> Chosen<'b, 'a> {
     ghost use Rattle.bgp_update.specs.Chosen.{chosen_update};
     ghost use Rattle.bgp_update.specs.Without.{update_without};
 
-    /// Of an UPDATE that keeps no attribute of a type that isn't recognised: all of them.
+    /// For an UPDATE that keeps no attribute of an unrecognised type: all attributes.
     #[inline(always)]
     pub fn all(view: &'b UpdateView<'a>, drops: &'b OctetSet) -> Chosen<'b, 'a>
         requires { view.now.summary.kept.others ≡ false }
@@ -47,7 +47,7 @@ impl<'b, 'a> Chosen<'b, 'a> {
         }
     }
 
-    /// Of any: its attributes of types that aren't recognised stand in a place ([`sort_others`](UpdateView::sort_others)).
+    /// For any UPDATE: its attributes of unrecognised types are in a buffer ([`sort_others`](UpdateView::sort_others)).
     #[inline(always)]
     pub fn without(
         view: &'b UpdateView<'a>,
@@ -72,7 +72,7 @@ impl<'b, 'a> Chosen<'b, 'a> {
         self.view
     }
 
-    /// The types that attributes with the same of unrecognised types can have, in the order in which they are written.
+    /// The types to look at for any attributes with the same unrecognised ones, in the order in which they are written.
     pub fn written_types(&self) -> &'static [u8]
         ensures { (a : Attrs) → a.others ≡ (chosen_update self.now).attrs.others → flat_map (slot a) result.now ≡ attr_list a }
     {

@@ -1,4 +1,4 @@
-//! The attributes that are chosen of an UPDATE, in the order in which they are written.
+//! The chosen attributes of an UPDATE, in the order in which they are written.
 
 ghost use Rattle.std.specs.Prelude.{◌≡◌};
 ghost use Rattle.bgp_attr.specs.Prelude.{attr_value};
@@ -9,7 +9,7 @@ use crate::chosen::Chosen;
 use crate::slot_iter::{OfType, first_slot};
 use bgp_attr::AttrView;
 
-/// The attributes that are chosen, in the order in which they are written. It takes no memory.
+/// The chosen attributes, in the order in which they are written. It allocates nothing.
 #[derive(Clone, Copy)]
 pub struct ChosenIter<'b, 'a> {
     chosen: Chosen<'b, 'a>,

@@ -47,7 +47,7 @@ fn family_of_kept(kept: AttrIter<'_>) -> Option<u16>
     }
 }
 
-/// IPv4 where no attribute stands in a field; the family of one alone, which is kept and is such an MP_UNREACH_NLRI.
+/// IPv4 where the field has no attribute; the family of a single one, which is kept and is such an MP_UNREACH_NLRI.
 fn family_of_marks(marks: MarkIter<'_>) -> Option<u16>
     ensures { result ≡ family_of_marks (marks_left marks.entry) }
 {
@@ -73,8 +73,8 @@ fn family_of_parts(ctx: &Context, body: Body<'_>) -> Option<u16>
     }
 }
 
-/// The family whose End-of-RIB the body of an UPDATE is in a context (RFC 4724, section 2): that of IPv4 where all fields are empty; one that is in use
-/// where MP_UNREACH_NLRI of it, without routes, is the only attribute and nothing else is there.
+/// The family whose End-of-RIB the body of an UPDATE is in a context (RFC 4724, section 2): IPv4 where all fields are empty; one that is in use
+/// where MP_UNREACH_NLRI of it, without routes, is the only attribute and there is nothing else.
 pub fn ended_family(ctx: &Context, body: &[u8]) -> Option<u16>
     requires { length body.now ≤ 4077 }
     ensures { result ≡ family_in ctx.now (parts_of body.now) }

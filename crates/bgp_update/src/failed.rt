@@ -11,12 +11,12 @@ use bgp_attr::unwritable::{has_as_zero, is_as4, is_empty, is_too_wide, stands_tw
 use bgp_attr::{AttrRef, is_out_of_place};
 use bgp_open::Context;
 
-/// Which tests some attribute fails.
+/// Which tests are failed by some attribute.
 #[derive(Clone, Copy)]
 pub(crate) struct Failed {
-    /// An AS number needs more octets than it has.
+    /// An AS number doesn't fit its two octets.
     pub(crate) too_wide: bool,
-    /// AS4_PATH or AS4_AGGREGATOR is there.
+    /// AS4_PATH or AS4_AGGREGATOR is present.
     pub(crate) as4: bool,
     /// Routes are of an address family that isn't in use.
     pub(crate) other_family: bool,
@@ -24,7 +24,7 @@ pub(crate) struct Failed {
     pub(crate) empty: bool,
     /// An AS number is 0.
     pub(crate) as_zero: bool,
-    /// A large community stands twice.
+    /// A large community is there twice.
     pub(crate) twice: bool,
 }
 
@@ -44,7 +44,7 @@ impl Failed {
         }
     }
 
-    /// The tests that fail with one more attribute.
+    /// Adds the tests that one more attribute fails.
     fn also(&self, ctx: &Context, attr: AttrRef<'_>) -> Failed
         ensures { result ≡ also_failed self.now ctx.now (ref_value attr.entry) }
     {
@@ -72,7 +72,7 @@ impl Failed {
         failed
     }
 
-    /// The first reason among the tests that fail.
+    /// The first reason among the failed tests.
     pub(crate) fn first(&self, as4: bool, bad_others: bool) -> Option<Invalid>
         ensures { result ≡ first_of self.now as4 bad_others }
     {

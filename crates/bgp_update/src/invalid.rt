@@ -17,7 +17,7 @@ pub enum Invalid {
     Family = 6,
     /// 7: a segment of no numbers or more than 255, no communities, or an AS4_PATH without segments.
     Empty = 7,
-    /// 8: attributes of unrecognised types that don't rise in type, or are of a recognised one.
+    /// 8: attributes of unrecognised types that aren't ascending by type, or are of a recognised one.
     Others = 8,
     /// 9: routes of more than one kind in one message (RFC 7606, section 5.1): for what a session sends.
     Mixed = 9,
@@ -25,6 +25,6 @@ pub enum Invalid {
     BadOpen = 10,
     /// 11: an AS number 0 (RFC 7607, section 2).
     AsZero = 11,
-    /// 12: a large community that stands twice (RFC 8092, section 3).
+    /// 12: a large community that is there twice (RFC 8092, section 3).
     Twice = 12,
 }

@@ -1,4 +1,4 @@
-//! The path that AS_PATH and AS4_PATH give together, borrowed.
+//! The path of AS_PATH and AS4_PATH together, borrowed.
 
 ghost use Rattle.std.specs.Prelude.{◌≡◌, [], ◌∷◌, ◌++◌, IfOk, OnOk};
 ghost use Rattle.bgp_attr.specs.Prelude.{path_value, segment_value};
@@ -10,7 +10,7 @@ use bgp_wire::List;
 use std::alloc::{AllocError, Global};
 use std::iter::FusedIterator;
 
-/// Adds a segment, with memory of its own.
+/// Appends a segment, with memory of its own.
 fn push_own(
     alloc: Global,
     segment: SegmentView<'_>,
@@ -24,7 +24,7 @@ fn push_own(
 /// The first items of AS_PATH and then AS4_PATH, or AS_PATH alone, borrowed (RFC 6793, section 4.2.3).
 #[derive(Clone, Copy)]
 pub struct JoinedPathView<'a> {
-    /// How many items of the first path lead: none where AS_PATH stands alone, which is the second then.
+    /// The number of leading items of the first path: 0 where AS_PATH is used alone, and is the second path then.
     items: usize,
     leading: PathView<'a>,
     behind: PathView<'a>,
@@ -33,7 +33,7 @@ pub struct JoinedPathView<'a> {
 impl<'a> JoinedPathView<'a> {
     ghost use Rattle.bgp_update.specs.PathInfoView.{joined_value, joined_left};
 
-    /// A path as it is.
+    /// A single path.
     #[tactic(auto, using(crate::proofs::PathItems::no_lead))]
     pub(crate) fn alone(path: PathView<'a>) -> JoinedPathView<'a>
         ensures { joined_value result ≡ path_value path.entry }
@@ -45,7 +45,7 @@ impl<'a> JoinedPathView<'a> {
         }
     }
 
-    /// The path of AS4_PATH, behind as many items of AS_PATH as that has more; where AS_PATH has fewer, it stands alone.
+    /// AS4_PATH with the surplus leading items of AS_PATH prepended; AS_PATH alone where that has fewer items than AS4_PATH.
     pub(crate) fn new(path: PathView<'a>, wide: PathView<'a>) -> JoinedPathView<'a>
         ensures { joined_value result ≡ joined (path_value path.entry) (path_value wide.entry) }
     {
@@ -88,7 +88,7 @@ impl<'a> JoinedPathView<'a> {
     }
 }
 
-/// The segments of such a path, the nearest first. It takes no memory.
+/// The segments of such a path, the nearest first. It allocates nothing.
 #[derive(Clone, Copy)]
 pub struct JoinedSegmentIter<'a> {
     items: usize,

@@ -13,7 +13,7 @@ use bgp_numbers::error::{INVALID_NETWORK_FIELD, UPDATE_MESSAGE};
 use bgp_open::Context;
 use bgp_prefix::check_run4;
 
-/// A reset of code 3, subcode 10 (Invalid Network Field), without information.
+/// A reset of code 3, subcode 10 (Invalid Network Field), without data.
 fn bad_network() -> NotificationView<'static>
     ensures { notification_of_view result ≡ bad_network }
 {
@@ -24,7 +24,7 @@ fn bad_network() -> NotificationView<'static>
     }
 }
 
-/// The reset by octets that aren't IPv4 prefixes alone.
+/// The reset for octets that aren't only IPv4 prefixes.
 #[tactic(auto, using(crate::proofs::Runs::run_test))]
 fn reset_of_run(octets: &[u8]) -> Option<NotificationView<'static>>
     ensures { option_map notification_of_view result ≡ reset_of_run octets.now }
@@ -39,7 +39,7 @@ fn reset_of_run(octets: &[u8]) -> Option<NotificationView<'static>>
 impl<'a> UpdateView<'a> {
     ghost use Rattle.bgp_update.specs.View.{found_value};
 
-    /// The verdict on parts of a body.
+    /// The verdict on the parts of a body.
     #[inline(always)]
     fn judge_parts(&mut self, ctx: &Context, body: Body<'a>) -> Found<'a>
         requires { length body.withdrawn.now + length body.attributes.now ≤ 4073 }
@@ -65,8 +65,8 @@ impl<'a> UpdateView<'a> {
         }
     }
 
-    /// The verdict on the body of an UPDATE, of at most 4077 octets, in a context, without memory (RFC 4271, section 6.3; RFC 7606). Where it doesn't
-    /// end the session, this is the view of it then; what was viewed before has no effect.
+    /// The verdict on the body of an UPDATE, of at most 4077 octets, in a context, without memory (RFC 4271, section 6.3; RFC 7606). Unless it
+    /// ends the session, `self` becomes the view of the body; what it viewed before has no effect.
     #[inline(always)]
     pub fn judge(&mut self, ctx: &Context, body: &'a [u8]) -> Found<'a>
         requires { length body.now ≤ 4077 }
@@ -79,7 +79,7 @@ impl<'a> UpdateView<'a> {
     }
 }
 
-/// The verdict on the body of an UPDATE, as [`UpdateView::judge`] says, with its view, and with a notification of its own.
+/// The verdict on the body of an UPDATE, as by [`UpdateView::judge`], with its view, and with a NOTIFICATION of its own.
 pub fn view_update<'a>(ctx: &Context, body: &'a [u8]) -> View<'a>
     requires { length body.now ≤ 4077 }
     ensures { view_value result ≡ verdict_of ctx.now body.now }

@@ -1,4 +1,4 @@
-//! The kept attributes of a message, by the places where they lie.
+//! The kept attributes of a message, by their offsets.
 
 ghost use Rattle.std.specs.Prelude.{◌≡◌, [], length, Some, IfOk};
 ghost use Rattle.bgp_update.specs.Places.{ArePlaced};
@@ -15,27 +15,27 @@ use bgp_open::Context;
 use bgp_wire::List;
 use std::alloc::{AllocError, Global};
 
-/// More than the highest recognised type: all places together are a whole number of 16 octets.
+/// More than the highest recognised type: the array has a multiple of 16 octets.
 const TYPES: usize = 40;
 
-/// The place of a type whose first attribute isn't kept: none begins there.
+/// The entry of a type whose first attribute isn't kept: no attribute begins at that offset.
 const PASSED: u16 = u16::MAX;
 
-/// The path attributes of an UPDATE that are kept, at most one of each type: where each lies that is recognised. It is read when it is asked for.
+/// The kept path attributes of an UPDATE, at most one of each type: the offset of each recognised one. Values are read on demand.
 #[derive(Clone, Copy)]
 pub struct KeptView<'a> {
     pub(crate) ctx: Context,
     pub(crate) has_nlri: bool,
     /// The attribute field.
     pub(crate) field: &'a [u8],
-    /// By type: 0 where no attribute of it was there, else one more than the offset of the first, or [`PASSED`] where that isn't kept.
+    /// By type: 0 where there was no attribute, else one more than the offset of the first, or [`PASSED`] where that isn't kept.
     places: [u16; TYPES],
     /// Whether there are others, of types that aren't recognised.
     pub others: bool,
     ghost placed: { ArePlaced ctx has_nlri field.now places },
 }
 
-/// There is a place for each recognised type.
+/// The array has an entry for each recognised type.
 fn are_all_types(places: &[u16; TYPES])
     ensures { length places.now ≡ TYPES }
 {
@@ -52,7 +52,7 @@ macro_rules! only {
     };
 }
 
-/// What is owned where there is something.
+/// An owned copy of an optional value.
 macro_rules! owned {
     ($value:expr, $alloc:expr) => {
         match $value {
@@ -76,7 +76,7 @@ impl<'a> KeptView<'a> {
     ghost use Rattle.bgp_update.specs.Slots.{slot};
     ghost use Rattle.bgp_wire.specs.OctetSet.{also, none_of_them};
 
-    /// No attributes, of a field that is judged in a context.
+    /// No attributes, of a field that is to be judged in a context.
     #[inline(always)]
     pub(crate) fn new(ctx: &Context, has_nlri: bool, field: &'a [u8]) -> KeptView<'a>
         ensures value { kept_value result ≡ kept_in [] }
@@ -92,7 +92,7 @@ impl<'a> KeptView<'a> {
         }
     }
 
-    /// Whether an attribute of a recognised type was there, kept or not.
+    /// Whether there was an attribute of a recognised type, kept or not.
     #[inline(always)]
     pub(crate) fn saw(&self, kind: u8) -> bool
         ensures { result ≡ saw self.now kind }
@@ -100,7 +100,7 @@ impl<'a> KeptView<'a> {
         self.place(kind) != 0
     }
 
-    /// Sets the place of a recognised type, of which no attribute was there.
+    /// Sets the entry of a recognised type of which there was no attribute.
     #[inline(always)]
     fn set(&mut self, kind: u8, place: u16)
         requires known { is_recognised kind ≡ true }
@@ -115,7 +115,7 @@ impl<'a> KeptView<'a> {
         self.places[usize::from(kind)] = place;
     }
 
-    /// Adds an attribute of the field that is kept, the first of a recognised type.
+    /// Records an attribute of the field that is kept, the first of a recognised type.
     #[inline(always)]
     pub(crate) fn put(&mut self, tlv: &Tlv<'a>)
         requires there { tlv_at self.old.field.now tlv.now.at ≡ Some (tlv_value tlv.now) }
@@ -130,7 +130,7 @@ impl<'a> KeptView<'a> {
         self.set(tlv.kind, tlv.at as u16 + 1);
     }
 
-    /// Passes over an attribute of the field that isn't kept, the first of a recognised type.
+    /// Records an attribute of the field that isn't kept, the first of a recognised type.
     #[inline(always)]
     pub(crate) fn pass(&mut self, kind: u8)
         requires known { is_recognised kind ≡ true }
@@ -143,7 +143,7 @@ impl<'a> KeptView<'a> {
         self.set(kind, PASSED);
     }
 
-    /// The place of a type: 0 where no attribute of it is kept.
+    /// The entry of a type: 0 where there was no attribute of it.
     #[inline(always)]
     fn place(&self, kind: u8) -> usize
         ensures { result ≡ slice_index_or self.now.places kind 0 }
@@ -167,7 +167,7 @@ impl<'a> KeptView<'a> {
         tlv_at(self.field, place - 1)
     }
 
-    /// The attribute of a type, where it is recognised and kept: its value is read here alone.
+    /// The attribute of a type, where it is recognised and kept: the only call that reads its value.
     #[inline(always)]
     fn known(&self, kind: u8) -> Option<AttrView<'a>>
         ensures { option_map attr_value result ≡ kept_attr self.now kind }
@@ -184,7 +184,7 @@ impl<'a> KeptView<'a> {
         self.known(kind)
     }
 
-    /// The attributes that take no memory, and these others.
+    /// The attributes that need no allocation, and these others.
     #[tactic(auto, unfolding(crate::specs::Fields::attrs_from))]
     #[inline(always)]
     fn values(&self, others: List<Opaque>) -> Attrs
@@ -208,7 +208,7 @@ impl<'a> KeptView<'a> {
         }
     }
 
-    /// Both paths: in a call of their own, as other pairs are, since proofs pay for each value that `?` may drop.
+    /// Both paths: a separate call, as for other pairs, since proofs pay for each value that `?` may drop.
     #[inline(always)]
     fn own_paths(&self, alloc: Global) -> Result<(Option<AsPath>, Option<As4Path>), AllocError>
         ensures { IfOk result (λ p. (p.0 ≡ (known_value self.now).as_path) × (p.1 ≡ (known_value self.now).as4_path)) }
@@ -231,7 +231,7 @@ impl<'a> KeptView<'a> {
         Ok((communities, large))
     }
 
-    /// Routes that come and go.
+    /// Announced and withdrawn routes.
     #[inline(always)]
     fn own_routes(&self, alloc: Global) -> Result<(Option<MpReach>, Option<MpUnreach>), AllocError>
         ensures { IfOk result (λ p. (p.0 ≡ (known_value self.now).mp_reach) × (p.1 ≡ (known_value self.now).mp_unreach)) }
@@ -254,7 +254,7 @@ impl<'a> KeptView<'a> {
     }
 }
 
-/// What is read where an attribute of a type is kept.
+/// The value of each type, where an attribute of it is kept.
 #[tactic(auto, unfolding(crate::specs::Fields::attrs_from))]
 impl<'a> KeptView<'a> {
     ghost use Rattle.std.specs.Prelude.{option_map};
@@ -304,7 +304,7 @@ impl<'a> KeptView<'a> {
         only!(self.known(attribute::LOCAL_PREF), LocalPref)
     }
 
-    /// Whether ATOMIC_AGGREGATE is there (RFC 4271, section 5.1.6).
+    /// Whether ATOMIC_AGGREGATE is present (RFC 4271, section 5.1.6).
     #[inline(always)]
     pub fn atomic(&self) -> bool
         ensures { result ≡ (known_value self.now).atomic }

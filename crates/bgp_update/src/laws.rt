@@ -11,7 +11,7 @@ ghost use Rattle.bgp_update.specs.declared.update.Update.{Update};
 ghost use Rattle.bgp_update.specs.declared.verdict.Verdict.TheVariants.{Take};
 ghost use Rattle.bgp_update.specs.Prelude.{Parts, IsBody, parts_of, cut, marks_of, placed_tlvs, kept_of, attrs_of, present, slot, verdict_of, written_body, invalid_of, rise, HasUpdateRanges, CanBeWritten, IsRepeated, HasMarkBehind, HasNoAs4, narrowed, narrowed_update, rebuilt, with_as4};
 
-/// What a speaker with AS numbers of two octets is told gives the path and the aggregator back.
+/// What is sent to a 2-octet-AS peer gives back the path and the aggregator.
 pub fn narrowed_paths_are_rebuilt()
     ensures { (a : Attrs) → HasNoAs4 a
         → rebuilt (narrowed a) ≡ record { path = a.as_path; aggregator = a.aggregator } }
@@ -24,14 +24,14 @@ pub fn bodies_split_in_one_way()
     ensures only { (body : List ℕ) (p : Parts) → IsBody p body → parts_of body ≡ Some p }
 {}
 
-/// A valid UPDATE that is written, in no more octets than a message can have, is accepted as itself.
+/// A valid UPDATE that is written, in no more octets than a message can have, is accepted unchanged.
 pub fn a_valid_update_is_taken_as_itself()
     ensures { (ctx : Context) (u : Update)
         → HasUpdateRanges u → invalid_of ctx u ≡ None → length (written_body ctx u) ≤ 4077
         → verdict_of ctx (written_body ctx u) ≡ Take u [] }
 {}
 
-/// An UPDATE that is accepted can be written where it was read, in no more octets.
+/// An accepted UPDATE can be written where it was read, in no more octets.
 pub fn a_taken_update_can_be_written()
     ensures { (ctx : Context) (body : List ℕ) (u : Update) (notes : List Note)
         → AreOctets body → verdict_of ctx body ≡ Take u notes → CanBeWritten ctx u body }
@@ -43,15 +43,15 @@ pub fn an_update_with_four_octets_has_no_as4()
         → ctx.as4 ≡ true → invalid_of ctx u ≡ None → HasNoAs4 u.attrs }
 {}
 
-/// What a speaker with AS numbers of two octets is told of a valid UPDATE is valid in the same session with two octets.
+/// What is sent of a valid UPDATE to a 2-octet-AS peer is valid in the same session with AS numbers of two octets.
 pub fn a_narrowed_update_is_valid()
     ensures { (ctx : Context) (u : Update)
         → ctx.as4 ≡ true → invalid_of ctx u ≡ None
         → invalid_of (with_as4 false ctx) (narrowed_update u) ≡ None }
 {}
 
-/// The attributes of a message that is taken have for each type the first that was kept of it, and none where none was;
-/// those of types that aren't recognised rise in type.
+/// The attributes of an accepted message have for each type the first that was kept of it, and none where none was;
+/// those of types that aren't recognised are ascending by type.
 pub fn each_slot_holds_the_first_of_its_type()
     ensures slots { (ctx : Context) (p : Parts) (kind : ℕ)
         → AreOctets p.attributes
@@ -61,7 +61,7 @@ pub fn each_slot_holds_the_first_of_its_type()
         → AreOctets p.attributes → rise (attrs_of (kept_of (marks_of ctx p))).others ≡ true }
 {}
 
-/// A whole attribute is discarded as a repeated one exactly where a whole one of its type stands before it, and its type is neither MP_REACH_NLRI nor
+/// A whole attribute is discarded as a repeated one exactly where a whole one of its type precedes it, and its type is neither MP_REACH_NLRI nor
 /// MP_UNREACH_NLRI: the session is reset for a second one of these, by 3/1. One that is cut off is never a repeated one (RFC 7606, section 3, item g).
 pub fn an_attribute_is_repeated_behind_one_of_its_type()
     ensures whole { (ctx : Context) (has_nlri : Bool) (field : List ℕ) (before later : List PlacedTlv) (p : PlacedTlv)

@@ -1,4 +1,4 @@
-//! Laying out the body of an UPDATE: room for its length fields, which are set when the parts are there.
+//! Laying out the body of an UPDATE: room for its length fields, which are set when the parts are written.
 
 ghost use Rattle.std.specs.Prelude.{◌≡◌, ◌<◌, ◌≤◌, ◌+◌, ◌++◌, [], ◌∷◌, ℕ, List, length, take, drop, OnOk, OnErr};
 ghost use Rattle.std.specs.Int.{w16, to_be_bytes};
@@ -11,14 +11,14 @@ use std::alloc::AllocError;
 /// The octets of a message of 4096 octets that follow its header (RFC 4271, section 4.1).
 pub(crate) const LONGEST_BODY: usize = 4077;
 
-/// Where the second length field begins, and where the NLRI do.
+/// Where the second length field begins, and where the NLRI begins.
 #[derive(Clone, Copy)]
 pub(crate) struct Places {
     pub(crate) attributes: usize,
     pub(crate) nlri: usize,
 }
 
-/// Adds room for a length field.
+/// Appends room for a length field.
 pub(crate) fn put_room<O: Output>(out: &mut O) -> Result<(), AllocError>
     ensures ok { OnOk result (O.written out.new ≡ O.written out.old ++ 0 ∷ 0 ∷ []) }
     ensures err { OnErr result (Extends (O.written out.old) (O.written out.new) × (O.room < length (O.written out.old) + 2)) }

@@ -1,4 +1,4 @@
-//! UPDATE of BGP-4: the verdict on its body by RFC 7606, how it is written, and AS numbers of four octets among speakers that have two
+//! UPDATE of BGP-4: the verdict on its body by RFC 7606, how it is written, and AS numbers of four octets among 2-octet-AS speakers
 //! (RFC 4271, sections 4.3, 5 and 6.3; RFC 6793).
 #![tactic(auto)]
 

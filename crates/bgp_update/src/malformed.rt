@@ -1,4 +1,4 @@
-//! Attributes that repeat, or that are cut off.
+//! Attributes that are repeated, or that are cut off.
 
 ghost use Rattle.std.specs.Prelude.{◌≡◌, ◌<◌, ℕ, List, [], false, length};
 ghost use Rattle.bgp_attr.specs.Prelude.{found_attr_value, keeps, ruled};
@@ -11,7 +11,7 @@ use bgp_frame::NotificationView;
 use bgp_numbers::attribute::{MP_REACH_NLRI, MP_UNREACH_NLRI};
 use bgp_numbers::error::{MALFORMED_ATTRIBUTE_LIST, UPDATE_MESSAGE};
 
-/// A reset of code 3, subcode 1 (Malformed Attribute List), without information.
+/// A reset of code 3, subcode 1 (Malformed Attribute List), without data.
 pub(crate) fn malformed() -> NotificationView<'static>
     ensures { notification_of_view result ≡ malformed }
 {
@@ -29,7 +29,7 @@ fn carries_routes(kind: u8) -> bool
     kind == MP_REACH_NLRI || kind == MP_UNREACH_NLRI
 }
 
-/// How a second attribute of a type is judged.
+/// The judgement of a second attribute of a type.
 pub(crate) fn repeated(kind: u8) -> Ruling
     ensures value { (whole : List ℕ) (a : Attr) → ruled result whole a ≡ repeated kind }
     ensures refuses { keeps result ≡ false }
@@ -48,7 +48,7 @@ pub(crate) fn cut_kind(rest: &[u8]) -> u8
     if rest.len() < 2 { 0 } else { rest[1] }
 }
 
-/// How an attribute that is cut off is judged.
+/// The judgement of an attribute that is cut off.
 pub(crate) fn cut(rest: &[u8]) -> Ruling
     ensures value { (whole : List ℕ) (a : Attr) → ruled result whole a ≡ cut rest.now }
     ensures refuses { keeps result ≡ false }
@@ -60,7 +60,7 @@ pub(crate) fn cut(rest: &[u8]) -> Ruling
     }
 }
 
-/// How an attribute that isn't kept is judged, as one that has no value.
+/// The judgement of an attribute that isn't kept, and so has no value.
 pub(crate) fn unkept<'a>(ruling: Ruling) -> FoundAttr<'a>
     requires { keeps ruling ≡ false }
     ensures { (a : Attr) → found_attr_value result ≡ ruled ruling [] a }

@@ -12,7 +12,7 @@ use bgp_open::Context;
 use bgp_wire::OctetSet;
 use std::iter::FusedIterator;
 
-/// An attribute's offset in the field, its type, and how it is judged.
+/// A mark: an attribute's offset in the field, its type, and its judgement.
 #[derive(Clone, Copy)]
 pub(crate) struct MarkView<'a> {
     pub(crate) at: usize,
@@ -21,7 +21,7 @@ pub(crate) struct MarkView<'a> {
     pub(crate) ghost small: { at ≤ 4075 },
 }
 
-/// The same, apart from the value of what is kept.
+/// The same, without the value of what is kept.
 #[derive(Clone, Copy)]
 pub(crate) struct RuledMark {
     pub(crate) at: usize,
@@ -30,7 +30,7 @@ pub(crate) struct RuledMark {
     pub(crate) ghost small: { at ≤ 4075 },
 }
 
-/// The marks of a field: of its attributes by place, then of one that is cut off. It takes no memory.
+/// The marks of a field: of its attributes by offset, then of one that is cut off. It allocates nothing.
 #[derive(Clone, Copy)]
 pub(crate) struct MarkIter<'a> {
     ctx: Context,
@@ -43,7 +43,7 @@ pub(crate) struct MarkIter<'a> {
     ghost small: { list_all is_small (tlvs_left tlvs) ≡ true },
 }
 
-/// Judges the first attribute of its type, apart from its value. It is a call, so that a walk over attributes that repeat stays in registers.
+/// Judges the first attribute of its type, without its value. A call of its own keeps the loop over repeated attributes in registers.
 #[inline(never)]
 fn rule_first(ctx: Context, has_nlri: bool, tlv: Tlv<'_>) -> Ruling
     ensures { (a : Attr) → ruled result tlv.entry.whole.now a ≡ decided (type_row ctx has_nlri (tlv_value tlv.entry)).tests a }
@@ -76,7 +76,7 @@ impl<'a> MarkIter<'a> {
         }
     }
 
-    /// Judges the whole attribute that was given, apart from its value.
+    /// Judges the whole attribute that was read, without its value.
     #[inline(always)]
     fn rule(&mut self, tlv: &Tlv<'a>) -> Ruling
         requires { length tlv.now.whole.now ≤ 4075 }
@@ -96,7 +96,7 @@ impl<'a> MarkIter<'a> {
         }
     }
 
-    /// The mark of an attribute that is cut off, which is never kept, where no whole one is left: nothing is left behind it.
+    /// The mark of an attribute that is cut off, which is never kept, once no whole one is left: it is the last.
     #[inline(always)]
     fn next_cut(&mut self) -> Option<RuledMark>
         requires { tlvs_left self.old.tlvs ≡ [] }
@@ -117,7 +117,7 @@ impl<'a> MarkIter<'a> {
         }
     }
 
-    /// The next mark, apart from the value of what is kept.
+    /// The next mark, without the value of what is kept.
     #[inline(always)]
     pub(crate) fn next_ruled(&mut self) -> Option<RuledMark>
         ensures { MatchOption result ((marks_left self.old ≡ []) × (marks_left self.new ≡ [])) (λ m. IsRuledNext self.old m self.new) }

@@ -1,4 +1,4 @@
-//! Attributes that a message has to have.
+//! Attributes that are mandatory in a message.
 
 ghost use Rattle.std.specs.Prelude.{◌≡◌, ◌&&◌, not, false};
 ghost use Rattle.bgp_numbers.specs.declared.attribute.TheConstants.{ORIGIN, AS_PATH, NEXT_HOP};
@@ -7,7 +7,7 @@ ghost use Rattle.bgp_update.specs.Prelude.{missing_in, saw};
 use crate::kept_view::KeptView;
 use bgp_numbers::attribute;
 
-/// Which of the attributes that a message with routes has to have are missing (RFC 4271, section 5).
+/// Which of the attributes that are mandatory in a message with routes are missing (RFC 4271, section 5).
 #[derive(Clone, Copy, PartialEq, Eq)]
 pub(crate) struct Missing {
     pub(crate) origin: bool,
@@ -28,7 +28,7 @@ impl Missing {
     }
 }
 
-/// What is missing of a message whose attributes these are, kept or not, where it `reaches`, and in its NLRI field where it `has_nlri`.
+/// What is missing in a message with these attributes, kept or not, which announces routes if `reaches`, also in its NLRI field if `has_nlri`.
 pub(crate) fn missing_in(reaches: bool, has_nlri: bool, kept: &KeptView<'_>) -> Missing
     ensures { result ≡ missing_in reaches has_nlri (saw kept.now) }
 {

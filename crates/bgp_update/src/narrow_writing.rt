@@ -1,4 +1,4 @@
-//! Writing the attributes that a speaker with AS numbers of two octets is told, from their views.
+//! Writing the attributes that are sent to a 2-octet-AS peer, from their views.
 
 ghost use Rattle.std.specs.Prelude.{◌≡◌, ◌++◌, false, true, option_map, OnOk, OnErr};
 ghost use Rattle.std.specs.List.{flat_map, AllByRecursion};
@@ -18,7 +18,7 @@ use bgp_numbers::attribute;
 use bgp_open::Context;
 use std::alloc::AllocError;
 
-/// Adds the attribute of a slot, where there is one.
+/// Appends the attribute of a slot, where there is one.
 macro_rules! put_kept {
     ($ctx:expr, $out:expr, $slot:expr, $variant:ident) => {
         match $slot {
@@ -28,7 +28,7 @@ macro_rules! put_kept {
     };
 }
 
-/// Adds an attribute, where there is one.
+/// Appends an attribute, where there is one.
 #[inline(always)]
 fn put_present(
     ctx: &Context,
@@ -45,7 +45,7 @@ fn put_present(
     }
 }
 
-/// Adds AS4_PATH, where a number of the path needs four octets.
+/// Appends AS4_PATH, where a number of the path needs four octets.
 #[inline(always)]
 fn put_wide_path(
     ctx: &Context,
@@ -59,7 +59,7 @@ fn put_wide_path(
     put_kept!(ctx, out, wide_path(path), As4Path)
 }
 
-/// Adds the attribute of a type, where one is told.
+/// Appends the attribute of a type, where one is sent.
 #[tactic(auto, unfolding(crate::specs::Slots::slot))]
 #[inline(always)]
 fn put_slot<'a>(
@@ -87,7 +87,7 @@ fn put_slot<'a>(
     }
 }
 
-/// Adds the attributes that are told; the first of them may stay where an allocation failed.
+/// Appends the attributes that are sent; after an error the first of them may remain.
 pub(crate) fn put_told_attrs<'a>(
     ctx: &Context,
     kept: &KeptView<'a>,

@@ -1,10 +1,10 @@
-//! What an operator is told of a message that is accepted or treated as a withdrawal.
+//! What is reported to an operator of a message that is accepted or treated as a withdrawal.
 
 use bgp_attr::Why;
 use bgp_wire::TryCopy;
 use std::alloc::{AllocError, Global};
 
-/// An attribute that was discarded, for which its message is treated as a withdrawal, or that is missing (RFC 7606, section 6).
+/// An attribute that was discarded, that made its message be treated as a withdrawal, or that is missing (RFC 7606, section 6).
 #[derive(Clone, Copy, Debug, PartialEq, Eq)]
 pub struct Note {
     /// The offset of its flags in the body: 0 for a missing one.

@@ -12,7 +12,7 @@ use bgp_attr::{Ruling, Why};
 use bgp_numbers::attribute::{AS_PATH, NEXT_HOP, ORIGIN};
 use std::iter::FusedIterator;
 
-/// The notes on a message: each attribute that is discarded, by offset, the one that is cut off, then what is missing. It takes no memory.
+/// The notes on a message: each attribute that isn't kept, by offset, the one that is cut off, then what is missing. It allocates nothing.
 #[derive(Clone, Copy)]
 pub struct NoteIter<'a> {
     field_at: usize,
@@ -25,7 +25,7 @@ impl<'a> NoteIter<'a> {
     ghost use Rattle.std.specs.Prelude.{◌++◌};
     ghost use Rattle.bgp_update.specs.Iters.{notes_left};
 
-    /// The notes of these marks of a field at this place, and of what is missing.
+    /// The notes of these marks of a field at this offset, and of what is missing.
     pub(crate) fn new(field_at: usize, marks: MarkIter<'a>, missing: Missing) -> NoteIter<'a>
         requires { field_at ≤ 4077 }
         ensures { notes_left result ≡ flat_map (mark_notes field_at) (marks_left marks.entry) ++ missing_notes missing }
@@ -38,7 +38,7 @@ impl<'a> NoteIter<'a> {
     }
 }
 
-/// The first note of marks of a field at this place: the marks behind it are left.
+/// The first note of marks of a field at this offset: the marks after it are left.
 #[inline(always)]
 fn first_note(field_at: usize, marks: &mut MarkIter<'_>) -> Option<Note>
     requires { field_at ≤ 4077 }
@@ -57,7 +57,7 @@ fn first_note(field_at: usize, marks: &mut MarkIter<'_>) -> Option<Note>
     None
 }
 
-/// The first of what is missing, which is no longer told.
+/// The first of what is missing, which is cleared.
 fn first_missing(missing: &mut Missing) -> Option<Note>
     ensures { MatchOption result ((missing_notes missing.old ≡ []) × (missing_notes missing.new ≡ []))
         (λ n. missing_notes missing.old ≡ n ∷ missing_notes missing.new) }

@@ -7,7 +7,7 @@ ghost use Rattle.bgp_update.specs.Prelude.{slot, canonical_order, attr_list};
 use crate::attrs::{Attrs, RECOGNISED};
 use bgp_attr::Opaque;
 
-/// The types in the order in which they are written: the two that carry routes (RFC 7606, section 5.1), then all others, rising.
+/// The types in the order in which they are written: the two that carry routes (RFC 7606, section 5.1), then all others, ascending.
 const ORDER: [u8; 256] = [
     14, 15, 0, 1, 2, 3, 4, 5, 6, 7, 8, 9, 10, 11, 12, 13, 16, 17, 18, 19, 20, 21, 22, 23, 24, 25,
     26, 27, 28, 29, 30, 31, 32, 33, 34, 35, 36, 37, 38, 39, 40, 41, 42, 43, 44, 45, 46, 47, 48, 49,
@@ -42,7 +42,7 @@ fn are_uncommon(others: &[Opaque]) -> bool
     others.iter().any(|other| other.kind > COMMON)
 }
 
-/// The types that attributes can have, in the order in which they are written: no more than need be looked at.
+/// The types to look at, in the order in which they are written: each attribute has one of them.
 #[tactic(auto, using(crate::proofs::SlotTypes::recognised_types, crate::proofs::SlotTypes::common_types))]
 pub(crate) fn types_of(attrs: &Attrs) -> &'static [u8]
     ensures { flat_map (slot attrs.now) result.now ≡ attr_list attrs.now }

@@ -1,4 +1,4 @@
-//! Attributes of types that aren't recognised, rising in type.
+//! Attributes of types that aren't recognised, ascending by type.
 
 ghost use Rattle.std.specs.Prelude.{◌≡◌, ◌≤◌, [], length, map, IfOk, OnOk};
 ghost use Rattle.std.specs.Iterator.{YieldsFirst};
@@ -13,7 +13,7 @@ use bgp_attr::{AttrView, Opaque, OpaqueView};
 use bgp_wire::List;
 use std::alloc::{AllocError, Global};
 
-/// The first of a row, which goes on behind it.
+/// The first of a row, which then begins after it.
 pub(crate) fn step<T: Copy>(row: &mut &[T]) -> Option<T>
     ensures { YieldsFirst (λ r. r.now) row.old result row.new }
 {
@@ -22,7 +22,7 @@ pub(crate) fn step<T: Copy>(row: &mut &[T]) -> Option<T>
     Some(*first)
 }
 
-/// The place of a type among attributes that rise in type.
+/// The index of a type among attributes that are ascending by type.
 fn place_of(kind: u8, others: &[OpaqueView<'_>]) -> usize
     ensures value { result ≡ place_in kind (map opaque_value others.now) }
     ensures within { result ≤ length others.now }
@@ -38,7 +38,7 @@ fn place_of(kind: u8, others: &[OpaqueView<'_>]) -> usize
     at
 }
 
-/// Adds an attribute in its place by type.
+/// Inserts an attribute by its type.
 #[tactic(auto, using(crate::proofs::Placing::inserted))]
 fn insert_rising<'a>(
     others: &mut List<OpaqueView<'a>>,
@@ -50,7 +50,7 @@ fn insert_rising<'a>(
     others.insert(place, opaque)
 }
 
-/// Adds an attribute where its type isn't recognised.
+/// Inserts an attribute where its type isn't recognised.
 fn add_other<'a>(others: &mut List<OpaqueView<'a>>, attr: AttrView<'a>) -> Result<(), AllocError>
     ensures { OnOk result (map opaque_value others.new ≡ rising_behind (map opaque_value others.old) (as_opaque (attr_value attr.entry))) }
 {
@@ -60,7 +60,7 @@ fn add_other<'a>(others: &mut List<OpaqueView<'a>>, attr: AttrView<'a>) -> Resul
     }
 }
 
-/// Those among attributes that are kept.
+/// Those among kept attributes.
 pub(crate) fn others_in<'a>(
     alloc: Global,
     kept: AttrIter<'a>,
@@ -75,7 +75,7 @@ pub(crate) fn others_in<'a>(
     Ok(others)
 }
 
-/// Those that stand in a place, each at its type.
+/// Those in a buffer, each at its type.
 pub(crate) fn row_of<'a>(
     alloc: Global,
     place: &ByType<'a>,

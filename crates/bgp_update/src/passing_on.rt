@@ -1,4 +1,4 @@
-//! What of an UPDATE is passed on.
+//! What is passed on of an UPDATE.
 
 ghost use Rattle.std.specs.Prelude.{◌≡◌};
 ghost use Rattle.std.specs.List.{filter};
@@ -8,7 +8,7 @@ use crate::update::Update;
 use bgp_attr::Opaque;
 use bgp_wire::List;
 
-/// Those that are transitive, in place.
+/// Those that are transitive, in their order.
 fn transitive(others: List<Opaque>) -> List<Opaque>
     ensures { result ≡ filter (λ o. o.transitive) others }
 {
@@ -17,8 +17,8 @@ fn transitive(others: List<Opaque>) -> List<Opaque>
     List::from_vec(kept)
 }
 
-/// The UPDATE without the attributes that end here: those of unrecognised types go on only where they are transitive, and in their
-/// order (RFC 4271, section 5). It takes no memory.
+/// The UPDATE as it is passed on: of the attributes of unrecognised types only the transitive ones remain, in their
+/// order (RFC 4271, section 5). It allocates nothing.
 pub fn onward(update: Update) -> Update
     ensures { result ≡ onward_of update }
 {

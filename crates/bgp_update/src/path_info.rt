@@ -1,4 +1,4 @@
-//! The path of a route, and who aggregated it, as speakers with AS numbers of four octets see them.
+//! The path and the aggregator of a route, as 4-octet-AS speakers see them.
 
 ghost use Rattle.std.specs.Prelude.{◌≡◌, IfOk};
 
@@ -6,7 +6,7 @@ use bgp_attr::{Aggregator, AsPath};
 use bgp_wire::TryCopy;
 use std::alloc::{AllocError, Global};
 
-/// The path and the aggregator that AS4_PATH and AS4_AGGREGATOR give back (RFC 6793, section 4.2.3).
+/// The path and the aggregator, restored from AS4_PATH and AS4_AGGREGATOR (RFC 6793, section 4.2.3).
 #[derive(Drop, PartialEq)]
 pub struct PathInfo {
     /// The path: none without AS_PATH.

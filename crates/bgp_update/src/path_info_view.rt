@@ -1,4 +1,4 @@
-//! The path of a route and who aggregated it, read without memory.
+//! The path and the aggregator of a route, read without memory.
 
 ghost use Rattle.std.specs.Prelude.{◌≡◌, option_map, IfOk};
 ghost use Rattle.bgp_attr.specs.Prelude.{as4_path_value, path_value};
@@ -12,8 +12,8 @@ use crate::view::UpdateView;
 use bgp_attr::{Aggregator, As4PathView, PathView};
 use std::alloc::{AllocError, Global};
 
-/// The path and the aggregator that AS_PATH, AS4_PATH, AGGREGATOR and AS4_AGGREGATOR give together (RFC 6793, section 4.2.3), borrowed: a
-/// [`PathInfo`] with an iterator in place of lists.
+/// The path and the aggregator of AS_PATH, AS4_PATH, AGGREGATOR and AS4_AGGREGATOR together (RFC 6793, section 4.2.3), borrowed: a
+/// [`PathInfo`] with an iterator instead of lists.
 #[derive(Clone, Copy)]
 pub struct PathInfoView<'a> {
     /// The path: none without AS_PATH.
@@ -22,7 +22,7 @@ pub struct PathInfoView<'a> {
     pub aggregator: Option<Aggregator>,
 }
 
-/// The path that both attributes give.
+/// The path of both attributes.
 fn path_of<'a>(
     path: Option<PathView<'a>>,
     as4_path: Option<As4PathView<'a>>,
@@ -37,7 +37,7 @@ fn path_of<'a>(
     Some(whole)
 }
 
-/// What these attributes give.
+/// The path and the aggregator of these attributes.
 fn info_of<'a>(kept: &KeptView<'a>) -> PathInfoView<'a>
     ensures { info_value result ≡ rebuilt (known_value kept.now) }
 {
@@ -71,8 +71,8 @@ impl<'a> PathInfoView<'a> {
 impl<'a> UpdateView<'a> {
     ghost use Rattle.bgp_update.specs.View.{update_value};
 
-    /// The path in AS numbers of four octets and the aggregator, as [`reconcile`](crate::reconcile) gives them of the owned attributes
-    /// (RFC 6793, section 4.2.3). It takes no memory.
+    /// The path in AS numbers of four octets and the aggregator, as [`reconcile`](crate::reconcile) restores them from the owned attributes
+    /// (RFC 6793, section 4.2.3). It allocates nothing.
     pub fn path_info(&self) -> PathInfoView<'a>
         ensures { info_value result ≡ rebuilt (update_value self.now).attrs }
     {

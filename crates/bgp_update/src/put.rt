@@ -13,7 +13,7 @@ use bgp_open::Context;
 use bgp_wire::Output;
 use std::alloc::AllocError;
 
-/// Adds an attribute, where there is one.
+/// Appends an attribute, where there is one.
 fn put_present<O: Output>(
     ctx: &Context,
     attr: Option<AttrRef<'_>>,
@@ -32,7 +32,7 @@ fn put_present<O: Output>(
     }
 }
 
-/// Adds the attributes of a message; the first of them may stay where there was no room.
+/// Appends the attributes of a message; after an error the first of them may remain.
 pub(crate) fn put_attributes<O: Output>(
     ctx: &Context,
     attrs: &Attrs,

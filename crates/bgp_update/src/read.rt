@@ -10,7 +10,7 @@ use crate::view::{UpdateView, View};
 use bgp_open::Context;
 use std::alloc::{AllocError, Global};
 
-/// A message that is taken. The notes come first: proofs pay for each large value that `?` may drop.
+/// A message that is accepted. The notes come first: proofs pay for each large value that `?` may drop.
 fn own_taken(alloc: Global, view: &UpdateView<'_>) -> Result<Verdict, AllocError>
     ensures { IfOk result (λ v. v ≡ verdict.Take (update_value view.now) (notes_value view.now)) }
 {
@@ -32,7 +32,7 @@ impl View<'_> {
     /// The verdict, with memory of its own.
     ///
     /// # Errors
-    /// `AllocError` where an allocation failed: a reset takes no memory.
+    /// `AllocError` where an allocation failed: a reset allocates nothing.
     pub fn own(&self, alloc: Global) -> Result<Verdict, AllocError>
         ensures value { IfOk result (λ v. v ≡ view_value self.now) }
         ensures err { OnErr result (IsTrue (has_value (view_value self.now))) }
@@ -48,7 +48,7 @@ impl View<'_> {
 /// The verdict on the body of an UPDATE, of at most 4077 octets, in a context (RFC 4271, section 6.3; RFC 7606).
 ///
 /// # Errors
-/// `AllocError` where an allocation failed: never where the body is answered by a reset.
+/// `AllocError` where an allocation failed: never where the verdict on the body is a reset.
 pub fn read_update(alloc: Global, ctx: &Context, body: &[u8]) -> Result<Verdict, AllocError>
     requires { length body.now ≤ 4077 }
     ensures value { IfOk result (λ v. v ≡ verdict_of ctx.now body.now) }

@@ -1,4 +1,4 @@
-//! The path and the aggregator that speakers with AS numbers of two octets passed on.
+//! The path and the aggregator of a route that 2-octet-AS speakers passed on.
 
 ghost use Rattle.std.specs.Prelude.{◌≡◌, Option, None, option_map, if◌then◌else◌, IfOk};
 ghost use Rattle.bgp_attr.specs.declared.path.AsPath.{AsPath};
@@ -13,7 +13,7 @@ use bgp_numbers::AS_TRANS;
 use bgp_wire::List;
 use std::alloc::{AllocError, Global};
 
-/// The path of AS4_PATH, behind as many items of AS_PATH as that has more; where AS_PATH has fewer, it stands alone.
+/// AS4_PATH with the surplus leading items of AS_PATH prepended; AS_PATH alone where that has fewer items than AS4_PATH.
 fn joined(alloc: Global, path: &AsPath, wide: &AsPath) -> Result<AsPath, AllocError>
     ensures { IfOk result (λ whole. whole ≡ joined path.now wide.now) }
 {
@@ -30,7 +30,7 @@ fn joined(alloc: Global, path: &AsPath, wide: &AsPath) -> Result<AsPath, AllocEr
     })
 }
 
-/// The path that both attributes give.
+/// The path of both attributes.
 fn rebuilt_path(
     alloc: Global,
     path: &Option<AsPath>,
@@ -48,15 +48,15 @@ fn rebuilt_path(
     Ok(Some(whole))
 }
 
-/// Whether the aggregator's AS number stands for another that two octets can't hold.
+/// Whether the aggregator's AS number is AS_TRANS, for one that doesn't fit two octets.
 fn is_as_trans(aggregator: Aggregator) -> bool
     ensures { result ≡ is_as_trans aggregator }
 {
     aggregator.asn.0 == u32::from(AS_TRANS)
 }
 
-/// Who aggregated, and whether AS4_PATH holds: an aggregator that stands for no other voids what the AS4 attributes say, since a
-/// speaker of two octets aggregated behind them.
+/// The aggregator, and whether AS4_PATH is valid: an aggregator other than AS_TRANS voids the AS4 attributes, since a 2-octet-AS
+/// speaker aggregated the route later.
 pub(crate) fn aggregated(
     aggregator: Option<Aggregator>,
     as4_aggregator: Option<Aggregator>,
@@ -71,8 +71,8 @@ pub(crate) fn aggregated(
     }
 }
 
-/// The path and the aggregator that AS_PATH, AS4_PATH, AGGREGATOR and AS4_AGGREGATOR give together, as a speaker with AS numbers of
-/// four octets reads them from one that has two (RFC 6793, section 4.2.3).
+/// The path and the aggregator of AS_PATH, AS4_PATH, AGGREGATOR and AS4_AGGREGATOR together, as a 4-octet-AS speaker reads them
+/// from a 2-octet-AS peer (RFC 6793, section 4.2.3).
 ///
 /// # Errors
 /// `AllocError` where an allocation failed.

@@ -1,4 +1,4 @@
-//! Which messages are written.
+//! Which messages aren't written.
 
 ghost use Rattle.std.specs.Prelude.{◌≡◌, ◌<◌, true, false, None};
 ghost use Rattle.std.specs.List.{list_any, AllByRecursion};
@@ -41,7 +41,7 @@ fn lacks_some(update: &Update) -> bool
         || has_nlri(update) && attrs.next_hop.is_none()
 }
 
-/// Whether each type is above the one in front of it.
+/// Whether each type is above the one before it.
 fn rise(others: &[Opaque]) -> bool
     ensures value { result ≡ rise others.now }
     ensures kinds { result ≡ true → AllByRecursion (λ o. o.kind < 256) others.now }
@@ -73,7 +73,7 @@ fn has_recognised(others: &[Opaque]) -> bool
     others.iter().any(|other| is_recognised(other))
 }
 
-/// Whether attributes of unrecognised types don't rise in type, or are of a recognised one.
+/// Whether attributes of unrecognised types aren't ascending by type, or are of a recognised one.
 fn has_bad_others(others: &[Opaque]) -> bool
     ensures value { result ≡ has_bad_others others.now }
     ensures kinds { result ≡ false → AllByRecursion (λ o. o.kind < 256) others.now }
@@ -101,7 +101,7 @@ pub(crate) fn first_reason(ctx: &Context, update: &Update) -> Option<Invalid>
     failed.first(ctx.as4, others)
 }
 
-/// Why an UPDATE isn't written in a context: the first reason in the order of their numbers, or `None` where it is valid. It takes no memory.
+/// Why an UPDATE isn't written in a context: the first reason in the order of their numbers, or `None` where it is valid. It allocates nothing.
 pub fn why_invalid(ctx: &Context, update: &Update) -> Option<Invalid>
     ensures { result ≡ invalid_of ctx.now update.now }
 {

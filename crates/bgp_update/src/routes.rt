@@ -6,7 +6,7 @@ use bgp_prefix::{Prefix4, Prefix6};
 use bgp_wire::{List, TryCopy};
 use std::alloc::{AllocError, Global};
 
-/// All routes of a message, announced and withdrawn alike (RFC 7606, section 2). Repeats stay.
+/// All routes of a message, announced and withdrawn alike (RFC 7606, section 2). Repetitions are kept.
 #[derive(Drop, PartialEq)]
 pub struct Routes {
     /// IPv4 unicast: of Withdrawn Routes, MP_UNREACH_NLRI, MP_REACH_NLRI and the NLRI field, in this order.

@@ -1,4 +1,4 @@
-//! The routes of a message, where they lie.
+//! The routes of a message, borrowed.
 
 ghost use Rattle.std.specs.Prelude.{◌≡◌, [], IfOk, option_map};
 ghost use Rattle.bgp_attr.specs.Prelude.{reach_value, unreach_value};
@@ -14,7 +14,7 @@ use bgp_prefix::{Prefix4, Prefix6, PrefixIter, PrefixIter4, PrefixIter6};
 use bgp_wire::List;
 use std::alloc::{AllocError, Global};
 
-/// All routes of a message, borrowed: a [`Routes`] by the fields and attributes that have them.
+/// All routes of a message, borrowed: a [`Routes`] by the fields and attributes that contain them.
 #[derive(Clone, Copy)]
 pub(crate) struct RoutesView<'a> {
     pub(crate) withdrawn: PrefixIter4<'a>,
@@ -23,7 +23,7 @@ pub(crate) struct RoutesView<'a> {
     pub(crate) nlri: PrefixIter4<'a>,
 }
 
-/// The routes of an attribute, which has them of one family.
+/// The routes of an attribute, which are of one family.
 #[derive(Clone, Copy)]
 pub(crate) struct AttributeRoutes<'a> {
     pub(crate) ip4: PrefixIter4<'a>,

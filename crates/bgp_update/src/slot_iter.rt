@@ -1,4 +1,4 @@
-//! The attributes of a message in the order in which they are written, while their values lie in octets.
+//! The attributes of a message in the order in which they are written, while their values are borrowed.
 
 ghost use Rattle.std.specs.Prelude.{◌≡◌, [], ◌∷◌, MatchOption};
 ghost use Rattle.std.specs.List.{flat_map};
@@ -13,7 +13,7 @@ use crate::told_slot::{other, told_types};
 use bgp_attr::{AttrView, OpaqueView, is_recognised};
 use std::iter::FusedIterator;
 
-/// Where attributes of types that aren't recognised are found by their type.
+/// A source of attributes of types that aren't recognised, by their type.
 pub(crate) trait OfType<'a> {
     ghost use Rattle.std.specs.Prelude.{◌≡◌, ◌==◌, true, List, [], option_map};
     ghost use Rattle.std.specs.List.{find, flat_map};
@@ -22,18 +22,18 @@ pub(crate) trait OfType<'a> {
     ghost use Rattle.bgp_update.specs.declared.attrs.Attrs.{Attrs};
     ghost use Rattle.bgp_update.specs.Slots.{slot, attr_list};
 
-    /// Those that are there.
+    /// Those that it has.
     ghost others: { Self → List Opaque };
 
     /// The attribute of a type.
     fn of_type(&self, kind: u8) -> Option<OpaqueView<'a>>
         ensures { option_map opaque_value result ≡ find (λ o. o.kind == kind) (others self.now) };
 
-    /// Whether there are none: where that isn't known, it answers no.
+    /// Whether there are none: false where that isn't known.
     fn are_none(&self) -> bool
         ensures { result ≡ true → others self.now ≡ [] };
 
-    /// The types that attributes with these can have, in the order in which they are written: no more than need be looked at.
+    /// The types to look at, in the order in which they are written: each attribute has one of them.
     fn types(&self) -> &'static [u8]
         ensures { (a : Attrs) → a.others ≡ others self.now → flat_map (slot a) result.now ≡ attr_list a };
 }
@@ -79,7 +79,7 @@ pub(crate) fn view_slot<'a, S: OfType<'a>>(
     }
 }
 
-/// The first attribute of these types: those behind it are left.
+/// The first attribute of these types: those after it are left.
 pub(crate) fn first_slot<'k, 'a, S: OfType<'a>>(
     kept: &KeptView<'a>,
     others: &S,
@@ -99,7 +99,7 @@ pub(crate) fn first_slot<'k, 'a, S: OfType<'a>>(
 }
 
 /// The attributes of slots, and others of types that aren't recognised, in the order in which they are written: MP_REACH_NLRI and MP_UNREACH_NLRI first
-/// (RFC 7606, section 5.1), all others rising in type. It takes no memory.
+/// (RFC 7606, section 5.1), all others ascending by type. It allocates nothing.
 #[derive(Clone, Copy)]
 pub struct SlotIter<'b, 'a> {
     kept: &'b KeptView<'a>,

@@ -1,4 +1,4 @@
-//! Attributes of types that aren't recognised, each found at its type where they are many.
+//! Attributes of types that aren't recognised, each found at its type where there are many.
 
 ghost use Rattle.std.specs.Prelude.{map, option_map};
 ghost use Rattle.bgp_attr.specs.AttrView.{opaque_value};
@@ -9,11 +9,11 @@ use crate::slot_iter::OfType;
 use crate::told_slot::{other, told_types};
 use bgp_attr::OpaqueView;
 
-/// So many at most are looked for one after another.
+/// The greatest number of attributes that is searched one after another.
 pub(crate) const FEW: usize = 4;
 
-/// A row of them, rising in type, and the same by type where they are more than [`FEW`]: each type is looked for, so that the time would grow with their
-/// number squared.
+/// A row of them, ascending by type, and the same by type where there are more than [`FEW`]: each type is searched for, so that the time would
+/// grow with the square of their number.
 #[derive(Clone, Copy)]
 pub(crate) struct SortedOthers<'b, 'a> {
     pub(crate) row: &'b [OpaqueView<'a>],
@@ -24,7 +24,7 @@ pub(crate) struct SortedOthers<'b, 'a> {
 impl<'b, 'a> SortedOthers<'b, 'a> {
     ghost use Rattle.std.specs.Prelude.{◌≡◌};
 
-    /// This row, which may stand by type too.
+    /// This row, which may also be stored by type.
     #[inline(always)]
     pub(crate) fn new(
         row: &'b [OpaqueView<'a>],

@@ -1,4 +1,4 @@
-//! The marks of a field in sum.
+//! Summary of the attribute verdicts.
 
 ghost use Rattle.std.specs.Prelude.{◌≡◌, ℕ, Bool, ◌≤◌, false, true, [], length};
 ghost use Rattle.bgp_attr.specs.Prelude.{decided, is_recognised, judgement, keeps, ruled, type_row};
@@ -15,14 +15,14 @@ use bgp_frame::NotificationView;
 use bgp_open::Context;
 use bgp_wire::OctetSet;
 
-/// The marks of a field in sum.
+/// Summary of the attribute verdicts of a field.
 #[derive(Clone, Copy)]
 pub(crate) struct Summary<'a> {
-    /// The attributes that are kept, by place.
+    /// The attributes that are kept, by offset.
     pub(crate) kept: KeptView<'a>,
     /// The first reset.
     pub(crate) reset: Option<NotificationView<'a>>,
-    /// An attribute asks that the routes be withdrawn.
+    /// Because of an attribute, the message is treated as a withdrawal.
     pub(crate) withdraws: bool,
     /// An attribute has a note.
     pub(crate) notes: bool,
@@ -37,7 +37,7 @@ impl<'a> Summary<'a> {
     ghost use Rattle.bgp_update.specs.Marks.{cut_mark, judged_behind, repeated};
     ghost use Rattle.bgp_update.specs.Summary.{seen_by, Adds};
 
-    /// Of no marks, of a field that is judged in a context.
+    /// No verdicts, of a field that is to be judged in a context.
     #[inline(always)]
     pub(crate) fn new(ctx: &Context, has_nlri: bool, field: &'a [u8]) -> Summary<'a>
         ensures value { summary_value result ≡ summary_of [] }
@@ -52,7 +52,7 @@ impl<'a> Summary<'a> {
         }
     }
 
-    /// With one more mark, of what isn't kept: an attribute of these octets.
+    /// Records a rejected attribute of these octets.
     #[inline(always)]
     fn refuse(&mut self, whole: &'a [u8], ruling: Ruling)
         requires refuses { keeps ruling ≡ false }
@@ -74,7 +74,7 @@ impl<'a> Summary<'a> {
         }
     }
 
-    /// With one more mark, of an attribute of a recognised type of which one was there.
+    /// Records a repeated attribute of a recognised type.
     #[inline(always)]
     fn repeat(&mut self, tlv: &Tlv<'a>)
         requires seen { saw self.old.kept tlv.now.kind ≡ true }
@@ -86,7 +86,7 @@ impl<'a> Summary<'a> {
         self.refuse(tlv.whole, repeated(tlv.kind));
     }
 
-    /// With one more mark, of the first attribute of the field of a recognised type, by its ruling.
+    /// Records the first attribute of the field of a recognised type, by its ruling.
     #[inline(always)]
     fn add_first(&mut self, tlv: &Tlv<'a>, ruling: Ruling)
         requires known { is_recognised tlv.now.kind ≡ true }
@@ -108,7 +108,7 @@ impl<'a> Summary<'a> {
         }
     }
 
-    /// With one more mark, of an attribute of another type, where these of them were there.
+    /// Records an attribute of an unrecognised type; `seen` has those before it.
     #[inline(always)]
     fn add_other(&mut self, tlv: &Tlv<'a>, seen: &mut OctetSet)
         requires other { is_recognised tlv.now.kind ≡ false }
@@ -131,7 +131,7 @@ impl<'a> Summary<'a> {
         }
     }
 
-    /// The same of the attribute at an offset, which is read there once more: so that those of recognised types, which are most, stay in registers.
+    /// The same for the attribute at an offset, which is read there again: so that the common case, recognised types, stays in registers.
     #[inline(never)]
     fn add_other_at(&mut self, at: usize, seen: &mut OctetSet)
         requires other { (t : TlvValue) → tlv_at self.old.kept.field.now at ≡ Some t → (is_recognised t.kind ≡ false) × (length t.whole ≤ 4075) }
@@ -145,7 +145,7 @@ impl<'a> Summary<'a> {
         }
     }
 
-    /// With one more mark, of an attribute of the field, where these of types that aren't recognised were there: the first of its type is judged.
+    /// Records an attribute of the field, judged if it is the first of its type; `others` has the unrecognised types before it.
     #[inline(always)]
     fn add(&mut self, tlv: &Tlv<'a>, others: &mut OctetSet)
         requires there { tlv_at self.old.kept.field.now tlv.now.at ≡ Some (tlv_value tlv.now) }
@@ -155,7 +155,7 @@ impl<'a> Summary<'a> {
         ensures seen { seen_by self.new.kept others.new ≡ also tlv.now.kind (seen_by self.old.kept others.old) }
         ensures of { AreOf self.new.kept self.old.kept.ctx self.old.kept.has_nlri self.old.kept.field.now }
     {
-        // Most are the first of a recognised type, which one choice by the type tells.
+        // Mostly it is the first of a recognised type: one `match` on the type decides.
         if self.kept.saw(tlv.kind) && is_recognised(tlv.kind) {
             self.repeat(tlv);
             return;
@@ -166,7 +166,7 @@ impl<'a> Summary<'a> {
         }
     }
 
-    /// With the mark of what stands behind the whole attributes, where something does.
+    /// Records what follows the whole attributes, if anything.
     #[inline(always)]
     fn add_tail(&mut self, tail: Tail<'a>)
         ensures adds { (rest : List ℕ) (at : ℕ) → IsTail rest tail.entry → summary_value self.new ≡ summary_behind (summary_value self.old) (cut_mark at rest) }
@@ -177,7 +177,7 @@ impl<'a> Summary<'a> {
         }
     }
 
-    /// Sums up the marks of a field of at most 4075 octets; what was there is gone.
+    /// Summarises the verdicts of a field of at most 4075 octets; earlier content is lost.
     #[inline(never)]
     pub(crate) fn sum_up(&mut self, ctx: &Context, has_nlri: bool, field: &'a [u8])
         requires { length field.now ≤ 4075 }

@@ -1,4 +1,4 @@
-//! AS_PATH for a speaker with AS numbers of two octets, written from its view.
+//! AS_PATH for a 2-octet-AS peer, written from its view.
 
 ghost use Rattle.std.specs.Prelude.{◌≡◌, ◌≤◌, ◌++◌, false, true, length, option_map, OnOk, OnErr};
 ghost use Rattle.std.specs.List.{flat_map, list_any, AllByRecursion};
@@ -37,7 +37,7 @@ pub(crate) fn is_wide_path(path: PathView<'_>) -> bool
     false
 }
 
-/// Adds what stands for a number where there are two octets for it.
+/// Appends a number in two octets, or AS_TRANS.
 #[inline(always)]
 fn put_number(number: AsNumber, out: &mut Vec<u8>) -> Result<(), AllocError>
     ensures ok { OnOk result (out.new.items ≡ out.old.items ++ number_octets false (narrow_number number).0) }
@@ -47,7 +47,7 @@ fn put_number(number: AsNumber, out: &mut Vec<u8>) -> Result<(), AllocError>
     out.extend_from_slice(&[high, low])
 }
 
-/// Adds numbers.
+/// Appends numbers.
 fn put_numbers(numbers: AsNumberIter<'_>, out: &mut Vec<u8>) -> Result<(), AllocError>
     ensures ok { OnOk result (out.new.items ≡ out.old.items ++ flat_map (λ n. number_octets false (narrow_number n).0) (as_numbers_left numbers.entry)) }
     ensures err { OnErr result (Extends out.old.items out.new.items) }
@@ -65,7 +65,7 @@ fn segment_code(kind: SegKind) -> u8
     kind as u8
 }
 
-/// Adds a segment.
+/// Appends a segment.
 fn put_segment(segment: SegmentView<'_>, out: &mut Vec<u8>) -> Result<(), AllocError>
     requires { is_bad_segment (narrow_segment (segment_value segment)) ≡ false }
     ensures ok { OnOk result (out.new.items ≡ out.old.items ++ segment_octets false (narrow_segment (segment_value segment.entry))) }
@@ -76,7 +76,7 @@ fn put_segment(segment: SegmentView<'_>, out: &mut Vec<u8>) -> Result<(), AllocE
     put_numbers(segment.numbers, out)
 }
 
-/// Adds the segments of a path.
+/// Appends the segments of a path.
 fn put_path(path: PathView<'_>, out: &mut Vec<u8>) -> Result<(), AllocError>
     requires { list_any is_bad_segment (narrow_path (path_value path)).segments ≡ false }
     ensures ok { OnOk result (out.new.items ≡ out.old.items ++ path_octets false (narrow_path (path_value path.entry))) }
@@ -88,7 +88,7 @@ fn put_path(path: PathView<'_>, out: &mut Vec<u8>) -> Result<(), AllocError>
     Ok(())
 }
 
-/// Adds an AS_PATH; a part of it may stay where an allocation failed.
+/// Appends an AS_PATH; after an error a part of it may remain.
 fn put_narrow_path(ctx: &Context, path: PathView<'_>, out: &mut Vec<u8>) -> Result<(), AllocError>
     requires narrow { ctx.now.as4 ≡ false }
     requires writable { is_writable ctx.now (attr.AsPath (narrow_path (path_value path))) ≡ true }
@@ -103,7 +103,7 @@ fn put_narrow_path(ctx: &Context, path: PathView<'_>, out: &mut Vec<u8>) -> Resu
     finish_attr(&AttrView::AsPath(path), start, out)
 }
 
-/// Adds an AS_PATH, where there is one; a part of it may stay where an allocation failed.
+/// Appends an AS_PATH, where there is one; after an error a part of it may remain.
 pub(crate) fn put_told_path(
     ctx: &Context,
     path: Option<PathView<'_>>,

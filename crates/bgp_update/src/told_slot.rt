@@ -1,4 +1,4 @@
-//! What the slots of kept attributes have for a speaker with AS numbers of two octets, while their values lie in octets.
+//! What is sent of the slots of kept attributes to a 2-octet-AS peer, while their values are borrowed.
 
 ghost use Rattle.std.specs.Prelude.{◌≡◌, ◌==◌, nat_lt, map, option_map};
 ghost use Rattle.std.specs.List.{find, flat_map, list_any};
@@ -25,7 +25,7 @@ fn are_uncommon(others: &[OpaqueView<'_>]) -> bool
     false
 }
 
-/// The types that attributes with these others can have, in the order in which they are written: no more than need be looked at.
+/// The types to look at, in the order in which they are written: each attribute has one of them.
 pub(crate) fn told_types(others: &[OpaqueView<'_>]) -> &'static [u8]
     ensures { (a : Attrs) → a.others ≡ map opaque_value others.now → flat_map (slot a) result.now ≡ attr_list a }
 {
@@ -51,7 +51,7 @@ pub(crate) fn other<'a>(others: &[OpaqueView<'a>], kind: u8) -> Option<OpaqueVie
     None
 }
 
-/// The AS4_PATH that stands beside a path: one exactly where a number needs four octets.
+/// The AS4_PATH that accompanies a path: one exactly where a number needs four octets.
 pub(crate) fn wide_path(path: Option<PathView<'_>>) -> Option<As4PathView<'_>>
     ensures { option_map as4_path_value result ≡ wide_path (option_map path_value path.entry) }
 {

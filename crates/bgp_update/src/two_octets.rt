@@ -1,4 +1,4 @@
-//! Attributes for speakers with AS numbers of two octets.
+//! Attributes for 2-octet-AS peers.
 
 ghost use Rattle.std.specs.Prelude.{◌≡◌, option_map, IfOk, OnOk, OnErr};
 ghost use Rattle.std.specs.List.{list_any};
@@ -14,7 +14,7 @@ use bgp_wire::List;
 use std::alloc::{AllocError, Global};
 use std::mem;
 
-/// What stands for a number where there are two octets for it.
+/// A number that fits two octets, or AS_TRANS.
 pub(crate) fn narrow_number(number: AsNumber) -> AsNumber
     ensures { result ≡ narrow_number number }
 {
@@ -64,7 +64,7 @@ fn is_wide_path(path: &AsPath) -> bool
     path.segments.iter().any(|segment| has_wide_number(segment))
 }
 
-/// Leaves a path of AS numbers of two octets, and gives the AS4_PATH that stands beside it: one exactly where a number needs four.
+/// Narrows a path to AS numbers of two octets, and returns the AS4_PATH that accompanies it: one exactly where a number needs four.
 ///
 /// # Errors
 /// `AllocError` where an allocation failed: nothing has changed then.
@@ -113,8 +113,8 @@ pub(crate) fn wide_aggregator(aggregator: Option<Aggregator>) -> Option<Aggregat
     }
 }
 
-/// Makes the attributes those that a speaker with AS numbers of two octets is told: 23456 stands for each number that needs four, and
-/// AS4_PATH and AS4_AGGREGATOR stand beside AS_PATH and AGGREGATOR exactly where one does (RFC 6793, section 4.2.2). All else stays.
+/// Changes the attributes to those sent to a 2-octet-AS peer: each number that needs four octets becomes 23456, and
+/// AS4_PATH and AS4_AGGREGATOR accompany AS_PATH and AGGREGATOR exactly where one does (RFC 6793, section 4.2.2). All else is unchanged.
 ///
 /// # Errors
 /// `AllocError` where an allocation failed: nothing has changed then.
@@ -130,7 +130,7 @@ pub fn narrow_in_place(alloc: Global, attrs: &mut Attrs) -> Result<(), AllocErro
     Ok(())
 }
 
-/// [`narrow_in_place`] of attributes that are given up.
+/// [`narrow_in_place`] of attributes passed by value.
 ///
 /// # Errors
 /// `AllocError` where an allocation failed.
@@ -154,7 +154,7 @@ pub fn narrow(alloc: Global, attrs: &Attrs) -> Result<Attrs, AllocError>
     into_narrowed(alloc, attrs.copy(alloc)?)
 }
 
-/// The UPDATE as a speaker with AS numbers of two octets is told it: its attributes as by [`narrow`], and its routes as they are.
+/// The UPDATE as sent to a 2-octet-AS peer: its attributes as by [`narrow`], and its routes unchanged.
 ///
 /// # Errors
 /// `AllocError` where an allocation failed.

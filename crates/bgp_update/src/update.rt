@@ -7,7 +7,7 @@ use bgp_prefix::Prefix4;
 use bgp_wire::{List, TryCopy};
 use std::alloc::{AllocError, Global};
 
-/// What an UPDATE says (RFC 4271, section 4.3).
+/// The fields of an UPDATE (RFC 4271, section 4.3).
 #[derive(Drop, PartialEq)]
 pub struct Update {
     /// Withdrawn Routes: IPv4 unicast.

@@ -16,7 +16,7 @@ pub enum Verdict {
     Take(Update, List<Note>),
     /// It is treated as a withdrawal of all its routes (treat-as-withdraw).
     Withdraw(Routes, List<Note>),
-    /// The session ends with this notification.
+    /// The session ends with this NOTIFICATION.
     Reset(Notification),
 }
 

@@ -32,7 +32,7 @@ use bgp_prefix::PrefixIter4;
 use bgp_wire::{List, are_octets};
 use std::alloc::{AllocError, Global};
 
-/// The body of an UPDATE that is accepted or treated as a withdrawal, borrowed. What it gives takes no memory.
+/// The body of an UPDATE that is accepted or treated as a withdrawal, borrowed. Only calls with an `alloc` allocate.
 #[derive(Clone, Copy)]
 pub struct UpdateView<'a> {
     ctx: Context,
@@ -53,11 +53,11 @@ pub enum View<'a> {
     Take(UpdateView<'a>),
     /// It is treated as a withdrawal of all its routes (treat-as-withdraw).
     Withdraw(UpdateView<'a>),
-    /// The session ends with this notification.
+    /// The session ends with this NOTIFICATION.
     Reset(Notification),
 }
 
-/// Of attributes in no more octets, few can be of types that aren't recognised.
+/// An attribute field of at most this length holds few attributes of types that aren't recognised.
 const FEW_OCTETS: usize = 256;
 
 /// Whether an MP_REACH_NLRI has a route.
@@ -75,7 +75,7 @@ impl<'a> UpdateView<'a> {
     ghost use Rattle.bgp_prefix.specs.PrefixIter.{prefixes_left};
     ghost use Rattle.bgp_update.specs.View.{update_value, view_marks};
 
-    /// A view of an UPDATE without routes and attributes: a place for [`judge`](UpdateView::judge).
+    /// A view of an UPDATE without routes and attributes: a buffer for [`judge`](UpdateView::judge).
     #[inline(always)]
     pub fn empty() -> UpdateView<'a>
         ensures { update_value result ≡ update_of (record { withdrawn = []; attributes = []; nlri = [] }) [] }
@@ -99,7 +99,7 @@ impl<'a> UpdateView<'a> {
         }
     }
 
-    /// Views a body in a context; what was viewed before is gone.
+    /// Views a body in a context; what was viewed before is lost.
     #[inline(always)]
     pub(crate) fn fill(&mut self, ctx: &Context, body: Body<'a>)
         requires { length body.withdrawn.now + length body.attributes.now ≤ 4073 }
@@ -123,7 +123,7 @@ impl<'a> UpdateView<'a> {
         !self.body.nlri.is_empty() || has_routes(&self.summary.kept.reach())
     }
 
-    /// Whether an attribute that the message has to have is missing.
+    /// Whether a mandatory attribute of the message is missing.
     #[inline(always)]
     pub(crate) fn is_missing(&self) -> bool
         ensures { result ≡ is_missing (missing_of (parts_value self.now.body) (view_marks self.now)) }
@@ -164,7 +164,7 @@ impl<'a> UpdateView<'a> {
         MarkIter::new(&self.ctx, !self.body.nlri.is_empty(), self.body.attributes)
     }
 
-    /// The marks that have notes, and perhaps others: none of a message without a note, whose attributes needn't be walked again.
+    /// The marks that have notes, perhaps among others: none for a message without a note, whose attributes needn't be read again.
     fn noted_marks(&self) -> MarkIter<'a>
         ensures { (at : ℕ) → flat_map (mark_notes at) (marks_left result) ≡ flat_map (mark_notes at) (view_marks self.now) }
     {
@@ -182,7 +182,7 @@ impl<'a> UpdateView<'a> {
         AttrIter::new(self.marks())
     }
 
-    /// The notes: each attribute that is discarded, by offset, the one that is cut off, then what is missing.
+    /// The notes: each attribute that isn't kept, by offset, the one that is cut off, then what is missing.
     pub fn notes(&self) -> NoteIter<'a>
         ensures { notes_left result ≡ notes_value self.now }
     {
@@ -236,7 +236,7 @@ impl<'a> UpdateView<'a> {
         self.summary.kept.unreach()
     }
 
-    /// The kept attributes of types that aren't recognised, rising in type.
+    /// The kept attributes of types that aren't recognised, ascending by type.
     ///
     /// # Errors
     /// `AllocError` where an allocation failed: never where there is none.
@@ -253,7 +253,7 @@ impl<'a> UpdateView<'a> {
         }
     }
 
-    /// The same of a field that may have many: each stands at its type first, since a row moves whenever one is put before others.
+    /// The same for a field that may have many: each is stored at its type first, since insertion into a row moves those after it.
     fn sorted_others(&self, alloc: Global) -> Result<List<OpaqueView<'a>>, AllocError>
         ensures { IfOk result (λ os. map opaque_value os ≡ (update_value self.now).attrs.others) }
     {
@@ -263,7 +263,7 @@ impl<'a> UpdateView<'a> {
         row_of(alloc, &place)
     }
 
-    /// Puts the kept attributes of types that aren't recognised into a place, each at its type. It takes no memory.
+    /// Stores the kept attributes of types that aren't recognised in a buffer, each at its type. It allocates nothing.
     pub fn sort_others(&self, place: &mut ByType<'a>)
         requires { IsByType place.old [] }
         ensures { IsByType place.new (update_value self.now).attrs.others }
@@ -271,7 +271,7 @@ impl<'a> UpdateView<'a> {
         place.fill(self.attrs());
     }
 
-    /// The attributes that are kept of types that aren't recognised, with memory of their own.
+    /// The kept attributes of types that aren't recognised, with memory of their own.
     fn own_others(&self, alloc: Global) -> Result<List<Opaque>, AllocError>
         ensures { IfOk result (λ os. os ≡ (update_value self.now).attrs.others) }
     {

@@ -27,7 +27,7 @@ pub(crate) fn items_of(path: PathView<'_>) -> usize
     items
 }
 
-/// The first items of a segment: a set whole, a sequence as far as they go, and nothing of one with none of them.
+/// The first items of a segment: a set whole, a sequence as far as they go, and nothing of an empty one.
 fn first_items(items: usize, segment: SegmentView<'_>) -> Option<SegmentView<'_>>
     ensures { MatchOption result (front_by items segment.entry.kind (as_numbers_left segment.entry.numbers) ≡ [])
         (λ s. front_by items segment.entry.kind (as_numbers_left segment.entry.numbers) ≡ segment_value s ∷ []) }
@@ -44,7 +44,7 @@ fn first_items(items: usize, segment: SegmentView<'_>) -> Option<SegmentView<'_>
     })
 }
 
-/// The first segment of the first items of a path: the items behind it are left.
+/// The first segment of the first items of a path; the rest remains.
 pub(crate) fn next_leading<'a>(
     items: &mut usize,
     segments: &mut SegmentIter<'a>,

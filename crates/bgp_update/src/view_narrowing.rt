@@ -1,4 +1,4 @@
-//! Writing an UPDATE as a speaker with AS numbers of two octets is told it, from its view.
+//! Writing an UPDATE for a 2-octet-AS peer, from its view.
 
 ghost use Rattle.std.specs.Prelude.{◌≡◌, ◌++◌, false, true, length, IfOk, OnOk, OnErr, IsTrue, IsErrOf};
 ghost use Rattle.std.specs.List.{AllByRecursion};
@@ -22,7 +22,7 @@ use crate::view::UpdateView;
 use bgp_open::Context;
 use std::alloc::{AllocError, Global};
 
-/// Why an UPDATE that was accepted isn't written for a speaker with AS numbers of two octets.
+/// Why an UPDATE that was accepted isn't written for a 2-octet-AS peer.
 #[derive(Clone, Copy, Debug, PartialEq, Eq)]
 pub enum NarrowFault {
     /// The message would have more than 4096 octets (RFC 4271, section 4.1).
@@ -39,7 +39,7 @@ impl From<AllocError> for NarrowFault {
     }
 }
 
-/// The same session, but for the width of its AS numbers.
+/// The same session, except for the width of its AS numbers.
 fn two_octets(ctx: &Context) -> Context
     ensures { result ≡ with_as4 false ctx.now }
 {
@@ -56,7 +56,7 @@ fn by_type<'a>(view: &UpdateView<'a>) -> ByType<'a>
     place
 }
 
-/// Adds the attributes as they are told; some octets may stay where an allocation failed.
+/// Appends the attributes as they are sent; after an error some octets may remain.
 fn put_told(
     alloc: Global,
     ctx: &Context,
@@ -78,7 +78,7 @@ fn put_told(
     put_told_attrs(ctx, view.kept(), &sorted, out)
 }
 
-/// Adds the parts of a body, and room for the lengths of the first two; some octets may stay where an allocation failed.
+/// Appends the parts of a body, and room for the lengths of the first two; after an error some octets may remain.
 fn put_parts(
     alloc: Global,
     ctx: &Context,
@@ -101,9 +101,9 @@ fn put_parts(
 }
 
 impl UpdateView<'_> {
-    /// Appends the body of the UPDATE as a speaker with AS numbers of two octets is told it (RFC 6793, section 4.2.2), in its one written form: what
+    /// Appends the body of the UPDATE as sent to a 2-octet-AS peer (RFC 6793, section 4.2.2), in its one written form: what
     /// [`narrow_update`](crate::narrow_update) and then [`write_update`](crate::write_update) would append in the same session with two octets. No
-    /// list of what it holds is made, and nothing is tested again; memory is taken for attributes of types that aren't recognised.
+    /// list of what it holds is made, and nothing is tested again; only attributes of types that aren't recognised need an allocation.
     ///
     /// # Errors
     /// `TooLong` where the message would have more than 4096 octets, `Memory` where an allocation failed; nothing is appended then.

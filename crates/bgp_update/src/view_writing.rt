@@ -22,7 +22,7 @@ use bgp_prefix::PrefixIter4;
 use bgp_wire::Output;
 use std::alloc::AllocError;
 
-/// Adds an attribute. A call of its own keeps those small that ask which are there.
+/// Appends an attribute. A call of its own keeps its callers, which look up the attributes, small.
 #[inline(never)]
 fn put_view<O: Output>(ctx: &Context, view: &AttrView<'_>, out: &mut O) -> Result<(), AllocError>
     requires { is_writable ctx.now (attr_value view.now) ≡ true }
@@ -33,7 +33,7 @@ fn put_view<O: Output>(ctx: &Context, view: &AttrView<'_>, out: &mut O) -> Resul
     write_attr_view(ctx, view, out)
 }
 
-/// Adds the attribute of a type, where there is one.
+/// Appends the attribute of a type, where there is one.
 #[inline(always)]
 fn put_slot<'a, S: OfType<'a>, O: Output>(
     ctx: &Context,
@@ -53,7 +53,7 @@ fn put_slot<'a, S: OfType<'a>, O: Output>(
     }
 }
 
-/// Adds the attribute of the next of the recognised types, where there was room for those before.
+/// Appends the attribute of the next of the recognised types, where there was room for those before.
 #[inline(always)]
 fn put_next<'a, const AT: usize, S: OfType<'a>, O: Output>(
     before: Result<(), AllocError>,
@@ -71,7 +71,7 @@ fn put_next<'a, const AT: usize, S: OfType<'a>, O: Output>(
     put_slot(ctx, kept, others, RECOGNISED[AT], out)
 }
 
-/// Adds the attributes of the recognised types, each by a call of its own, which doesn't ask for the type.
+/// Appends the attributes of the recognised types, each by a call of its own, in which the type is a constant.
 fn put_recognised<'a, S: OfType<'a>, O: Output>(
     ctx: &Context,
     kept: &KeptView<'a>,
@@ -97,7 +97,7 @@ fn put_recognised<'a, S: OfType<'a>, O: Output>(
     put
 }
 
-/// Adds the attributes; some octets may stay where there was no room.
+/// Appends the attributes; after an error some octets may remain.
 fn put_attrs<'a, S: OfType<'a>, O: Output>(
     ctx: &Context,
     kept: &KeptView<'a>,
@@ -119,7 +119,7 @@ fn put_attrs<'a, S: OfType<'a>, O: Output>(
     Ok(())
 }
 
-/// Adds the parts of a body, and room for the lengths of the first two; some octets may stay where there was no room.
+/// Appends the parts of a body, and room for the lengths of the first two; after an error some octets may remain.
 fn put_parts<'a, S: OfType<'a>, O: Output>(
     ctx: &Context,
     withdrawn: PrefixIter4<'a>,

@@ -1,4 +1,4 @@
-//! Writing the UPDATE that withdraws the routes of one.
+//! Writing the UPDATE that withdraws the routes of an UPDATE.
 
 ghost use Rattle.std.specs.Prelude.{◌≡◌, ◌<◌, ◌+◌, ◌≤◌, ◌++◌, [], true, false, length, IfOk, OnOk, OnErr};
 ghost use Rattle.bgp_attr.specs.Prelude.{run_octets};
@@ -17,7 +17,7 @@ use bgp_prefix::PrefixIter6;
 use bgp_wire::Output;
 use std::alloc::AllocError;
 
-/// Adds all IPv4 routes.
+/// Appends all IPv4 routes.
 fn put_ip4<O: Output>(routes: &RoutesView<'_>, out: &mut O) -> Result<(), AllocError>
     ensures ok { OnOk result (O.written out.new ≡ O.written out.old ++ run_octets (all_routes routes.now).ip4) }
     ensures err { OnErr result (Extends (O.written out.old) (O.written out.new) × (O.room < length (O.written out.old) + length (run_octets (all_routes routes.now).ip4))) }
@@ -28,7 +28,7 @@ fn put_ip4<O: Output>(routes: &RoutesView<'_>, out: &mut O) -> Result<(), AllocE
     routes.nlri.write(out)
 }
 
-/// Adds all IPv6 routes.
+/// Appends all IPv6 routes.
 fn put_ip6<O: Output>(routes: &RoutesView<'_>, out: &mut O) -> Result<(), AllocError>
     ensures ok { OnOk result (O.written out.new ≡ O.written out.old ++ run_octets (all_routes routes.now).ip6) }
     ensures err { OnErr result (Extends (O.written out.old) (O.written out.new) × (O.room < length (O.written out.old) + length (run_octets (all_routes routes.now).ip6))) }
@@ -45,7 +45,7 @@ fn has_ip6(routes: &RoutesView<'_>) -> bool
     routes.gone.ip6.has_next() || routes.reached.ip6.has_next()
 }
 
-/// Adds MP_UNREACH_NLRI with all IPv6 routes behind one head, where there are some.
+/// Appends MP_UNREACH_NLRI with all IPv6 routes, where there are some.
 fn put_gone<O: Output>(routes: &RoutesView<'_>, out: &mut O) -> Result<(), AllocError>
     requires { length (run_octets (all_routes routes.now).ip6) ≤ 4077 }
     ensures ok { OnOk result (O.written out.new ≡ O.written out.old ++ gone_octets (all_routes routes.now).ip6) }
@@ -63,7 +63,7 @@ fn put_gone<O: Output>(routes: &RoutesView<'_>, out: &mut O) -> Result<(), Alloc
     finish_attr(&named, start, out)
 }
 
-/// Adds the parts of a body, and room for the lengths of the first two; some octets may stay where there was no room.
+/// Appends the parts of a body, and room for the lengths of the first two; after an error some octets may remain.
 fn put_parts<O: Output>(routes: RoutesView<'_>, out: &mut O) -> Result<Places, AllocError>
     requires { length (withdrawal_octets (all_routes routes)) ≤ 4077 }
     ensures ok { IfOk result (λ p. LaysOut (run_octets (all_routes routes.entry).ip4) (gone_octets (all_routes routes.entry).ip6) [] (length (O.written out.old)) (O.written out.old) (O.written out.new) p) }

@@ -41,7 +41,7 @@ impl From<AllocError> for WriteFault {
     }
 }
 
-/// Adds the parts of a body, and room for the lengths of the first two; some octets may stay where there was no room.
+/// Appends the parts of a body, and room for the lengths of the first two; after an error some octets may remain.
 fn put_parts<O: Output>(ctx: &Context, update: &Update, out: &mut O) -> Result<Places, AllocError>
     requires filled { AllByRecursion (λ a. is_empty a ≡ false) (attr_list update.now.attrs) }
     requires room { O.room ≤ 65535 }
@@ -59,14 +59,14 @@ fn put_parts<O: Output>(ctx: &Context, update: &Update, out: &mut O) -> Result<P
     Ok(Places { attributes, nlri })
 }
 
-/// Whether the body is longer than a message holds: it is written where there is room for as much.
+/// Whether the body is longer than a message holds: it is written to a counter with room for that length.
 fn is_too_long(ctx: &Context, update: &Update) -> bool
     requires { AllByRecursion (λ a. is_empty a ≡ false) (attr_list update.now.attrs) }
     ensures { result ≡ is_too_long ctx.now update.now }
 {
     let mut counter: Counter<LONGEST_BODY> = Counter::new();
     let put = put_parts(ctx, update, &mut counter);
-    // At most as many are counted.
+    // For the proof: at most LONGEST_BODY octets were counted.
     let _ = counter.count();
     put.is_err()
 }
@@ -92,10 +92,10 @@ fn append_body(ctx: &Context, update: &Update, out: &mut Vec<u8>) -> Result<(), 
     }
 }
 
-/// What most bodies fit in: they are written there, and copied from there. Others are measured first.
+/// Most bodies fit in this length: they are written to a buffer of it and copied. Others are measured first.
 const SHORT_BODY: usize = 1024;
 
-/// Appends the body of an UPDATE where it is short: else nothing is appended, and the answer is no.
+/// Appends the body of an UPDATE where it is short, and returns true; else appends nothing and returns false.
 fn append_short(ctx: &Context, update: &Update, out: &mut Vec<u8>) -> Result<bool, AllocError>
     requires { AllByRecursion (λ a. is_empty a ≡ false) (attr_list update.now.attrs) }
     ensures short { IfOk result (λ short. short ≡ true → (length (written_body ctx.now update.now) ≤ 4077) × (out.new.items ≡ out.old.items ++ written_body ctx.now update.now) × HasPartRanges update.now) }
@@ -107,7 +107,7 @@ fn append_short(ctx: &Context, update: &Update, out: &mut Vec<u8>) -> Result<boo
     let Ok(places) = put_parts(ctx, update, &mut page) else {
         return Ok(false);
     };
-    // At most as many octets as it has room for are there.
+    // For the proof: at most SHORT_BODY octets are in the page.
     let _ = page.count();
     set_lengths(0, places, &mut page);
     out.extend_from_slice(page.as_slice())?;
@@ -134,7 +134,7 @@ fn append_valid(ctx: &Context, update: &Update, out: &mut Vec<u8>) -> Result<(),
 }
 
 /// Appends the body of an UPDATE in its one written form (RFC 4271, section 4.3): the shortest lengths, MP_REACH_NLRI and
-/// MP_UNREACH_NLRI first (RFC 7606, section 5.1), all other attributes rising in type.
+/// MP_UNREACH_NLRI first (RFC 7606, section 5.1), all other attributes ascending by type.
 ///
 /// # Errors
 /// `NotValid` for the first reason why it isn't valid in the context, else `TooLong`, else `Memory` where an allocation failed; nothing
@@ -143,7 +143,7 @@ pub fn write_update(ctx: &Context, update: &Update, out: &mut Vec<u8>) -> Result
     ensures not_valid { (why : Invalid) → IsErrOf result (NotValid why) ↔ (invalid_of ctx.now update.now ≡ Some why) }
     ensures too_long { IsErrOf result TooLong ↔ (IsTrue (is_valid ctx.now update.now) × IsTrue (is_too_long ctx.now update.now)) }
     ensures ok { OnOk result (out.new.items ≡ out.old.items ++ written_body ctx.now update.now) }
-    // What is written is taken as the UPDATE, without notes.
+    // What is written is accepted as the UPDATE, without notes.
     ensures taken { OnOk result (verdict_of ctx.now (written_body ctx.now update.now) ≡ Take update.now []) }
     // Each number of it is within its field.
     ensures ranges { OnOk result (HasUpdateRanges update.now) }

@@ -1,4 +1,4 @@
--- A row behind its length, or behind its count, is read by its reader: so it is prefix free.
+-- A row after its length, or after its count, is read by its reader: so it is prefix free.
 use Rattle.bgp_wire.proofs.Std.{◌≡◌, ℕ, zero, suc, ◌<◌, Bool, true, false, cond, eqb, List, [], ◌∷◌, ◌++◌, length, Option, Some, None, refl, sym, ap, subst, ◌∙◌, append_assoc, arith}
 use Rattle.std.proofs.lemmas.Bool.{eqb-true, eq-eqb}
 use Rattle.std.proofs.Math.Dec.{eqb-suc-zero}
@@ -23,7 +23,7 @@ module _ (A : Type 0) (R : A → List ℕ → Type 0) (one : List ℕ → Option
       let s = subst (λ (q : List A × List ℕ). Splits R b q.0 q.1) e (Splits-pieces A R one reads b) in
       subst (λ (x : List ℕ). Row R vs x) (sym (s.whole ∙ append-nil s.row)) s.spelled
 
-  -- ---- behind a length
+  -- ---- after a length
 
   BehindLength-finds : (vs : List A) (front back : List ℕ) → BehindLength R vs front → behind_length one (front ++ back) ≡ Some (vs, back)
   unfolding behind_length
@@ -62,7 +62,7 @@ module _ (A : Type 0) (R : A → List ℕ → Type 0) (one : List ℕ → Option
     gives = BehindLength-gives;
   }
 
-  -- ---- behind a count
+  -- ---- after a count
 
   count_within : (vs : List A) (row back : List ℕ) → Row R vs row → pieces_within (length vs) one (row ++ back) ≡ (vs, back)
   count_within [] row back p = ap (λ (x : List ℕ). ([], x ++ back)) p

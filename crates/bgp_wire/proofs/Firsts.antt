@@ -1,4 +1,4 @@
--- The first octets, and what is read of them.
+-- The first n octets, and what is read from them.
 use Rattle.bgp_wire.proofs.Std.{◌≡◌, ℕ, Bool, true, false, cond, leb, List, ◌++◌, length, take, drop, Option, Some, None, refl, sym, ap, ap₂, ◌∙◌, arith, leb-true, le-leb, take_at, drop_at, take-append-drop}
 use Rattle.std.proofs.lemmas.List.{length-append, length-take}
 use Rattle.bgp_wire.specs.Prelude.{◌>>=◌, first_octets}
@@ -9,12 +9,12 @@ module _ {A B : Type 0} where
   cond-then true x f = refl
   cond-then false x f = refl
 
-  -- both steps gave something
+  -- both steps succeeded
   pub both_steps : (o : Option A) (f : A → Option B) (y : B) → (o >>= f) ≡ Some y → (x : A) × (o ≡ Some x) × (f x ≡ Some y)
   both_steps None f y e = absurd cc
   both_steps (Some x) f y e = (x, refl, e)
 
--- octets that stand at the front are found there
+-- octets at the front are found by their length
 pub first_octets-finds : (front back : List ℕ) → first_octets (length front) (front ++ back) ≡ Some (front, back)
 first_octets-finds front back =
     let fits : leb (length front) (length (front ++ back)) ≡ true = le-leb _ _ (omega (arith, length-append front back)) in
@@ -23,7 +23,7 @@ first_octets-finds front back =
 pub first_octets-at : (n : ℕ) (front back : List ℕ) → length front ≡ n → first_octets n (front ++ back) ≡ Some (front, back)
 first_octets-at n front back e = ap (λ (m : ℕ). first_octets m (front ++ back)) (sym e) ∙ first_octets-finds front back
 
--- what was found stands there
+-- what was found is the front of the octets
 pub record IsFront (n : ℕ) (b front back : List ℕ) : Type 0 where
   pub octets : b ≡ front ++ back
   pub long : length front ≡ n

@@ -42,7 +42,7 @@ AreOctets-one n lt (suc i) = omega arith
 pub AreOctets-push : (b : List ℕ) (n : ℕ) → AreOctets b → n < 256 → AreOctets (b ++ n ∷ [])
 AreOctets-push b n h lt = AreOctets-append b (n ∷ []) h (AreOctets-one n lt)
 
--- what is past the end is 0
+-- an octet past the end is 0
 pub AreOctets-within : (b : List ℕ) → ((i : ℕ) → i < length b → get_or b i 0 < 256) → AreOctets b
 AreOctets-within b each i =
     elim (cases_lt i (length b)) [

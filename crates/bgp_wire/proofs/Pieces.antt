@@ -69,7 +69,7 @@ module _ (A : Type 0) (R : A → List ℕ → Type 0) (one : List ℕ → Option
   pieces-none b e =
       within_more (length b) (suc (length b)) b (omega arith) (omega arith) ∙ ap (then_pieces b (pieces_within (length b) one)) e
 
-  -- the rest of a split begins with no spelling exactly where nothing is found there
+  -- the rest of a split begins with no spelling exactly where the reader finds none in it
   stuck_none : (rest : List ℕ) → one rest ≡ None → (v : A) (front back : List ℕ) → R v front → rest ≡ front ++ back → ⊥
   stuck_none rest e v front back p whole = found_not A (v, back) (sym e ∙ ap one whole ∙ reads.finds v front back p)
 

@@ -1,4 +1,4 @@
--- The names of std that most proofs cite, passed on from one place. Declares nothing.
+-- Re-exports the names of std that most proofs cite. Declares nothing.
 pub use Rattle.std.proofs.Common.{All, Bool, Bor, Box, Err, Global, IsErrOf, IsTrue, IsUtf8, List, None, Ok, OnErr, OnOk, Option, Result, Some, T, [], add-zero, ap, append_assoc, ap₂, arith, chars, codes, cond, drop, drop-drop, eq-eqb, eq-zero-or-pos, eqb, eqb-true, eqb→eq, false, get_or, get_or-set_other, get_or-set_same, if◌then◌else◌, inl, inr, leb, length, length-append, length-drop, length-set, lit<, ltb, map, min, nat_eq, nat_le, nat_lt, ne_eqb, not, option_map, refl, replicate, rules, set, slice_index_or, string_bytes, subst, suc, sym, take, take_all, true, true≢false, w64, zero, ℕ, ◌%◌, ◌&&◌, ◌*◌, ◌++◌, ◌+◌, ◌-◌, ◌/◌, ◌<◌, ◌==◌, ◌^◌, ◌||◌, ◌↔◌, ◌∙◌, ◌∷◌, ◌≡◌, ◌≢◌, ◌≤◌, ◌⊎◌}
 pub use Rattle.std.specs.List.{AllByRecursion, Contains, filter, find, flat_map, insert, list_all, list_any, onto_first, position, position_or_len, range_with_len, slice_get, slice_range}
 pub use Rattle.std.specs.Int.{bit_at, bit_not, byte_at, bytes_high_first, from_be_bytes, to_be_bytes, w16, w32}

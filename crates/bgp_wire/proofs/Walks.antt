@@ -23,11 +23,11 @@ module _ (A : Type 0) (R : A → List ℕ → Type 0) (one : List ℕ → Option
   pub no_more : (b : List ℕ) → None ≡ one b → (pieces one b).0 ≡ []
   no_more b e = ap (λ (q : List A × List ℕ). q.0) (pieces-none A R one reads b (sym e))
 
-  -- no piece stands in front of the rest
+  -- no piece is at the front of the rest
   pub nothing_at : (b : List ℕ) → one (pieces one b).1 ≡ None
   nothing_at b = none_stuck A R one reads (pieces one b).1 (Splits-pieces A R one reads b).stuck (one (pieces one b).1) refl
 
-  -- ---- how many pieces there are
+  -- ---- the number of pieces
 
   -- a row has at least an octet for each value
   Row-longer : (vs : List A) (b : List ℕ) → Row R vs b → length vs ≤ length b
@@ -47,7 +47,7 @@ module _ (A : Type 0) (R : A → List ℕ → Type 0) (one : List ℕ → Option
   pub counted : (b : List ℕ) (count all : ℕ) → None ≡ one b → count + length (pieces one b).0 ≡ all → count ≡ all
   counted b count all e whole = omega (arith, ap length (no_more b e), whole)
 
-  -- ---- a list of what the pieces give, so far
+  -- ---- a list of what each piece yields, so far
 
   pub adds : {B : Type 0} (f : A → List B) (b : List ℕ) (v : A) (after : List ℕ) (so_far now all : List B) → Some (v, after) ≡ one b → now ≡ so_far ++ f v
       → so_far ++ flat_map f (pieces one b).0 ≡ all → now ++ flat_map f (pieces one after).0 ≡ all
@@ -68,7 +68,7 @@ module _ (A : Type 0) (R : A → List ℕ → Type 0) (one : List ℕ → Option
   pub has_all : (b : List ℕ) (so_far all : List A) → None ≡ one b → so_far ++ (pieces one b).0 ≡ all → so_far ≡ all
   has_all b so_far all e whole = sym (append-nil so_far) ∙ ap (λ (xs : List A). so_far ++ xs) (sym (no_more b e)) ∙ whole
 
-  -- where a piece is there, all the pieces are one at least
+  -- a piece at the front means at least one piece
   pub not_none : (b : List ℕ) (v : A) (after : List ℕ) (so_far all : List A) → Some (v, after) ≡ one b → so_far ++ (pieces one b).0 ≡ all → 0 < length all
   not_none b v after so_far all e whole = omega (arith, ap length whole, length-append so_far (pieces one b).0, ap length (first_then b v after e))
 

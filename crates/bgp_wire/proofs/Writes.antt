@@ -8,7 +8,7 @@ pub all_push : {X : Type 0} (P : X → Type 0) (xs : List X) (x : X) → AllByRe
 all_push P [] x all p = (p, tt)
 all_push P (y ∷ xs) x all p = (all.0, all_push P xs x all.1 p)
 
--- the values are written behind what was there, and each is within its field
+-- the values are appended to what was there, and each is within its field
 pub record IsWritten {X : Type 0} (octets : X → List ℕ) (P : X → Type 0) (xs : List X) (before now : List ℕ) : Type 0 where
   pub items : now ≡ before ++ flat_map octets xs
   pub ranges : AllByRecursion P xs
@@ -30,7 +30,7 @@ module _ {X : Type 0} (octets : X → List ℕ) (P : X → Type 0) where
     pub all_written : length xs ≤ i → IsWritten octets P xs before old
     all_written le = subst (λ (ys : List X). IsWritten octets P ys before old) (take_all i xs le) so_far
 
-    -- a failed allocation leaves what was there, and some octets behind it
+    -- a failed allocation leaves what was there, and some octets after it
     pub some_written : (new : List ℕ) → Extends old new → Extends before new
     some_written new more = (flat_map octets (take i xs) ++ more.0, more.1 ∙ ap (λ (b : List ℕ). b ++ more.0) so_far.items ∙ append_assoc before (flat_map octets (take i xs)) more.0)
 

@@ -1,4 +1,4 @@
--- What any format of octets is told in: rows of spellings, and readers of them.
+-- What any binary format is defined by: rows of spellings, and readers of them.
 pub mod Octets
 pub mod Row
 pub mod Then

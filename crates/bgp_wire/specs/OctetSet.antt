@@ -4,15 +4,15 @@ use Rattle.std.specs.Int.{bit_at}
 use Rattle.std.specs.List.{slice_index_or}
 use Rattle.bgp_wire.specs.declared.octet_set.OctetSet.{OctetSet}
 
--- what a set has
+-- whether an octet is in the set
 abbrev pub has_octet : OctetSet → ℕ → Bool
 has_octet s = λ octet. bit_at (slice_index_or s.words (octet / 64) 0) (octet % 64) == 1
 
--- the set with nothing in it
+-- the empty set
 abbrev pub none_of_them : ℕ → Bool
 none_of_them octet = false
 
--- a set with an octet more
+-- the set with one octet more
 abbrev pub also : ℕ → (ℕ → Bool) → ℕ → Bool
 also octet set = λ k. (k == octet) || set k
 

@@ -1,4 +1,4 @@
--- The names that other crates and the proofs cite, passed on from one place. Declares nothing.
+-- Re-exports the names that other crates and the proofs cite. Declares nothing.
 pub use Rattle.bgp_wire.specs.Octets.{AreOctets}
 pub use Rattle.bgp_wire.specs.Row.{IsPrefixFree, Row, Splits}
 pub use Rattle.bgp_wire.specs.Then.{when, ◌>>=◌}

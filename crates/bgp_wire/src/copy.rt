@@ -1,4 +1,4 @@
-//! Copies that may find no memory.
+//! Copies whose allocation may fail.
 
 ghost use Rattle.std.specs.Prelude.{◌≡◌, IfOk};
 

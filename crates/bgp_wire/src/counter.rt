@@ -8,7 +8,7 @@ use crate::trace::Trace;
 use std::alloc::AllocError;
 use std::marker::Model;
 
-/// How many octets were written, at most `N`: to measure what is written is to write it here. It takes no memory.
+/// The number of octets written, at most `N`: writing here measures them. It allocates nothing.
 #[derive(Drop)]
 pub struct Counter<const N: usize> {
     octets: Trace,
@@ -26,7 +26,7 @@ impl<const N: usize> Model for Counter<N> {
 }
 
 impl<const N: usize> Counter<N> {
-    /// A counter of nothing.
+    /// A counter at 0.
     #[inline(always)]
     pub fn new() -> Counter<N>
         ensures { result ≡ [] }
@@ -37,7 +37,7 @@ impl<const N: usize> Counter<N> {
         }
     }
 
-    /// How many octets were written.
+    /// The number of octets written.
     #[inline(always)]
     pub fn count(&self) -> usize
         ensures value { result ≡ length self.now }

@@ -1,4 +1,4 @@
-//! What any format of octets is defined in, with nothing of BGP in it: spellings, rows of them, and readers.
+//! What any binary format is defined by, without anything of BGP: spellings, rows of them, and readers.
 #![tactic(auto)]
 
 mod copy;

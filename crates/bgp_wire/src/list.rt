@@ -22,7 +22,7 @@ impl<T> Model for List<T> {
 }
 
 impl<T> List<T> {
-    /// An empty list. It takes no memory.
+    /// An empty list. It allocates nothing.
     pub fn new(alloc: Global) -> List<T>
         ensures { result ≡ [] }
     {
@@ -31,14 +31,14 @@ impl<T> List<T> {
         }
     }
 
-    /// The elements of a vector, without memory.
+    /// The elements of a vector, without an allocation.
     pub fn from_vec(items: Vec<T>) -> List<T>
         ensures { result ≡ items.items }
     {
         List { items }
     }
 
-    /// The vector of the elements, without memory.
+    /// The vector of the elements, without an allocation.
     pub fn into_vec(self) -> Vec<T>
         ensures { result.items ≡ self }
     {
@@ -53,7 +53,7 @@ impl<T> List<T> {
         self.items.as_slice()
     }
 
-    /// How many elements there are.
+    /// The number of elements.
     pub fn len(&self) -> usize
         ensures { result ≡ length self.now }
     {
@@ -86,7 +86,7 @@ impl<T> List<T> {
     ghost use Rattle.std.specs.Prelude.{◌≤◌};
     ghost use Rattle.std.specs.List.{insert};
 
-    /// Adds a value at a place: those from there on follow it.
+    /// Inserts a value at an index: the elements from there on follow it.
     ///
     /// # Errors
     /// `AllocError` where the allocation failed; the list is then as it was.

@@ -10,7 +10,7 @@ pub struct OctetSet {
 }
 
 impl OctetSet {
-    /// The set with nothing in it.
+    /// The empty set.
     pub fn new() -> OctetSet
         ensures { has_octet result ≡ none_of_them }
     {
@@ -25,7 +25,7 @@ impl OctetSet {
         (self.words[usize::from(octet / 64)] >> (octet % 64)) & 1 == 1
     }
 
-    /// Puts an octet into the set.
+    /// Adds an octet to the set.
     #[inline]
     pub fn insert(&mut self, octet: u8)
         ensures { has_octet self.new ≡ also octet (has_octet self.old) }

@@ -1,25 +1,25 @@
-//! Where octets are written, one behind another.
+//! Where octets are written, one after another.
 
 ghost use Rattle.std.specs.Prelude.{◌≡◌, ◌≤◌, ◌<◌, ◌+◌, ◌++◌, length, take, drop, OnOk, OnErr};
 ghost use Rattle.std.specs.List.{insert};
 
 use std::alloc::AllocError;
 
-/// Octets that grow at their end: in a vector, or in a place of fixed size.
+/// Octets that grow at their end: in a vector, or in a buffer of fixed size.
 pub trait Output {
     ghost use Rattle.std.specs.Prelude.{ℕ, List};
 
-    /// The octets that are there.
+    /// The octets written.
     ghost written: { Self → List ℕ };
 
-    /// As many have room whatever comes: a refusal says that there would have been more.
+    /// The number of octets that always have room: an error means that there would have been more.
     ghost room: { ℕ };
 
-    /// How many octets are there.
+    /// The number of octets written.
     fn len(&self) -> usize
         ensures { result ≡ length (written self.now) };
 
-    /// Adds octets.
+    /// Appends octets.
     ///
     /// # Errors
     /// `AllocError` where there is no room for them; nothing has changed then.
@@ -28,7 +28,7 @@ pub trait Output {
         ensures err { OnErr result (written self.new ≡ written self.old) }
         ensures full { OnErr result (room < length (written self.old) + length octets.now) };
 
-    /// Puts an octet in front of those from `start` on.
+    /// Inserts an octet in front of those from `start` on.
     ///
     /// # Errors
     /// `AllocError` where there is no room for it; nothing has changed then.
@@ -38,12 +38,12 @@ pub trait Output {
         ensures err { OnErr result (written self.new ≡ written self.old) }
         ensures full { OnErr result (room < length (written self.old) + 1) };
 
-    /// Puts octets in the place of as many others.
+    /// Overwrites octets from `start` on.
     fn replace(&mut self, start: usize, octets: &[u8])
         requires { start + length octets.now ≤ length (written self.old) }
         ensures { written self.new ≡ take start (written self.old) ++ (octets.now ++ drop (start + length octets.now) (written self.old)) };
 
-    /// Leaves the first octets alone.
+    /// Keeps the first `len` octets only.
     fn truncate(&mut self, len: usize)
         ensures { written self.new ≡ take len (written self.old) };
 }

@@ -1,4 +1,4 @@
-//! A place of fixed size that octets are written to.
+//! A buffer of fixed size that octets are written to.
 
 ghost use Rattle.std.specs.Prelude.{◌≡◌, ℕ, List, ◌+◌, ◌<◌, ◌≤◌, ◌∷◌, ◌++◌, [], length, take, drop};
 ghost use Rattle.std.specs.List.{insert};
@@ -7,7 +7,7 @@ use crate::output::Output;
 use std::alloc::AllocError;
 use std::marker::Model;
 
-/// Room for `N` octets, and how many of them count. It takes no memory.
+/// A buffer of `N` octets, and the number of those written. It allocates nothing.
 #[derive(Drop)]
 pub struct Page<const N: usize> {
     octets: [u8; N],
@@ -25,7 +25,7 @@ impl<const N: usize> Model for Page<N> {
 }
 
 impl<const N: usize> Page<N> {
-    /// A page with nothing in it.
+    /// An empty buffer.
     #[inline(always)]
     pub fn new() -> Page<N>
         ensures { result ≡ [] }
@@ -36,7 +36,7 @@ impl<const N: usize> Page<N> {
         }
     }
 
-    /// The octets.
+    /// The octets written.
     #[inline(always)]
     pub fn as_slice(&self) -> &[u8]
         ensures { result.now ≡ self.now }
@@ -44,7 +44,7 @@ impl<const N: usize> Page<N> {
         &self.octets[..self.len]
     }
 
-    /// How many octets are there.
+    /// The number of octets written.
     #[inline(always)]
     pub fn count(&self) -> usize
         ensures value { result ≡ length self.now }
@@ -63,7 +63,7 @@ fn last_to(octets: &mut [u8], start: usize)
     octets[start..].rotate_right(1);
 }
 
-/// Puts an octet in front of those from `start` on, of the first `len`.
+/// Inserts an octet in front of those from `start` on, of the first `len`.
 #[inline(always)]
 fn insert_in(all: &mut [u8], len: usize, start: usize, octet: u8)
     requires within { start ≤ len }
@@ -74,7 +74,7 @@ fn insert_in(all: &mut [u8], len: usize, start: usize, octet: u8)
     last_to(&mut all[..len + 1], start);
 }
 
-/// Puts octets in the place of as many others.
+/// Overwrites octets from `start` on.
 #[inline(always)]
 fn overwrite(octets: &mut [u8], start: usize, others: &[u8])
     requires { start + length others.now ≤ length octets.old }
@@ -84,7 +84,7 @@ fn overwrite(octets: &mut [u8], start: usize, others: &[u8])
     octets[start..end].copy_from_slice(others);
 }
 
-/// Puts octets in the place of as many others, of the first `len`.
+/// Overwrites octets from `start` on, within the first `len`.
 #[inline(always)]
 fn overwrite_in(all: &mut [u8], len: usize, start: usize, others: &[u8])
     requires within { start + length others.now ≤ len }

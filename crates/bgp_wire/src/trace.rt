@@ -1,11 +1,11 @@
-//! What a counter has counted, which proofs alone read.
+//! The octets that a counter counted, which proofs alone read.
 
 ghost use Rattle.std.specs.Prelude.{◌≡◌, ℕ, List, [], ◌++◌, take, drop};
 ghost use Rattle.std.specs.Borrow.{ftrue};
 
 use std::marker::Model;
 
-/// Octets that aren't there when the program runs: it takes no memory, and its calls do nothing.
+/// Octets that don't exist when the program runs: it allocates nothing, and its calls do nothing.
 #[derive(Drop)]
 pub(crate) struct Trace {
     pub(crate) ghost octets: { List ℕ },
@@ -24,7 +24,7 @@ impl Trace {
         Trace {}
     }
 
-    /// Octets in the place of those from `start` to `end`.
+    /// The octets with those from `start` to `end` replaced.
     #[inline(always)]
     pub(crate) fn spliced(&self, _start: usize, _end: usize, _octets: &[u8]) -> Trace
         ensures { result.octets ≡ take _start self.now.octets ++ (_octets.now ++ drop _end self.now.octets) }

@@ -1,4 +1,4 @@
--- What a parse found of a command and its flags.
+-- What a parse found: a command and its flags.
 use Rattle.bgp_words.proofs.Prelude.{◌≡◌, List, [], ◌∷◌, Option, None, Some, Result, option_map, refl, sym, ap, subst, ◌∙◌, inl, inr, Box, Global, FailsBy}
 use Rattle.bgp_words.proofs.Prelude.{HasKind, Kinds, Row, Text, subcommand_name_of, subcommand_of, subcommand_rows, subcommand_rows_of, Asks, IsAsked}
 use Rattle.bgp_words.proofs.Prelude.{bgp_command, drops_by, file_in, first_kinds, request_by}
@@ -9,7 +9,7 @@ use Rattle.clap.specs.declared.parser.matches.SubCommand.{SubCommand}
 use Rattle.clap.specs.declared.error.Error.{Error}
 use Rattle.bgp_words.specs.declared.request.Request.{Request}
 
--- what was found to be wrong behind a parse without an error
+-- the faults found after a parse without an error
 pub fails_behind : {T : Type 0} (r : Result T Error) (kinds later : Kinds) → kinds ≡ [] → FailsBy later r → FailsBy (first_kinds kinds later) r
 fails_behind r kinds later none f = subst (λ (k : Kinds). FailsBy (first_kinds k later) r) (sym none) f
 
@@ -34,7 +34,7 @@ name-rows m = by_cases (out-ArgMatches m).subcommand
     by_cases None = refl
     by_cases (Some b) = refl
 
--- what a command asks for, where the words name it
+-- the request of a command, if it is named
 pub asks_behind : (words : List Text) (name : Text) (rows : List Row) (asked : Option (Request × Text)) → subcommand_of bgp_command words ≡ Some (name, rows)
     → IsAsked name rows asked → Asks words asked
 asks_behind words name rows asked found a = subst (Asks words) (sym a.is) (record {

@@ -1,4 +1,4 @@
--- What is left out isn't recognised.
+-- No recognised type is left out.
 use Rattle.bgp_words.proofs.Prelude.{◌≡◌, ℕ, ◌<◌, Bool, true, false, not, ◌&&◌, ◌==◌, nat_le, nat_lt, List, [], ◌∷◌, length, Option, None, Some, option_map}
 use Rattle.bgp_words.proofs.Prelude.{refl, sym, subst, inl, inr, cond, codes, arith, and_parts, leb-true, ltb-true, not-true, or_cases, eqb-true}
 use Rattle.bgp_words.proofs.Prelude.{all_ascii_digits, digits_value, Row, Text, first_of, is_recognised, also, none_of_them, ◌>>=◌, when, drops_by, is_set}

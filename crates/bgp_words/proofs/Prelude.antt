@@ -1,4 +1,4 @@
--- The names of std, of the crates below and of this crate that its proofs cite, passed on from one place. Declares nothing.
+-- Re-exports the names of std, of the crates below and of this crate that its proofs cite. Declares nothing.
 pub use Rattle.bgp_wire.proofs.Std.{Bool, Box, Err, Global, IfOk-weaker, List, None, Ok, Option, Result, Some, [], and_parts, ap, arith, codes, cond, drop, eqb-true, err_from_is_err_and, false, get_or, inl, inr, le-leb, leb-true, length, lit<, ltb-true, map, nat_le, nat_lt, not, not-true, option_map, or_cases, refl, subst, suc, sym, true, true≢false, ℕ, ◌&&◌, ◌<◌, ◌==◌, ◌^◌, ◌||◌, ◌∙◌, ◌∷◌, ◌≡◌, ◌≢◌}
 pub use Rattle.std.proofs.Math.Bool.{or-false}
 pub use Rattle.std.specs.Str.{all_ascii_digits}

@@ -33,7 +33,7 @@ by_result word (Err e) h = no_number (is_octet word) (digits_value 10 word) (λ 
     let small = leb-true (digits_value 10 word) 255 rest.1 in
     h (rest.0, ltb-true 0 (length word) some.0, omega arith))
 
--- what `parse` answers at a word without a sign
+-- the result of `parse` for a word without a sign
 pub parsed : {E : Type 0} (word : List ℕ) (r : Result ℕ E) → ParsesUnsigned 8 10 word r → get_or word 0 0 ≢ 43 → result_ok r ≡ octet_of word
 parsed word r h plain = by_result word r (parse_plain own 8 word r h plain)
 

@@ -1,4 +1,4 @@
--- What the words of a command line ask for, in the words of `clap`, which parses them.
+-- What the words of a command line request, in the terms of `clap`, which parses them.
 use Rattle.std.specs.Prelude.{◌≡◌, ℕ, Bool, true, false, not, ◌&&◌, ◌||◌, List, [], ◌∷◌, codes, Option, None, Some, is_some, option_map, if◌then◌else◌}
 use Rattle.std.specs.Str.{bytes_eq}
 use Rattle.clap.specs.Words.{App, Kinds, Row, Rule, Text, fault_of, first_of, new_app, new_rule, subcommand_of, with_rule, with_subcommand}
@@ -32,7 +32,7 @@ with_option a name = with_rule a (option_rule name)
 abbrev pub with_families : App → App
 with_families a = with_flag (with_flag (with_flag a (codes "ip4")) (codes "ip6")) (codes "internal")
 
--- that, or the file with the octets of the other direction
+-- these, or the file with the octets of the other direction
 abbrev pub with_session : App → App
 with_session a = with_option (with_families a) (codes "opens")
 
@@ -40,14 +40,14 @@ with_session a = with_option (with_families a) (codes "opens")
 abbrev pub with_judging : App → App
 with_judging a = with_session (with_flag (with_flag a (codes "hex")) (codes "as4"))
 
--- the attributes that are left out: by type, or all unrecognised ones but those that pass
+-- the attributes that are left out: by type, or all unrecognised ones except those that pass
 abbrev pub with_dropping : App → App
 with_dropping a = with_option (with_flag (with_option a (codes "drop")) (codes "drop-unknown")) (codes "pass")
 
 abbrev pub clean_command : App
 clean_command = with_dropping (with_judging (new_app (codes "clean")))
 
--- the file of a script has to be named
+-- the file of a script is required
 abbrev pub file_rule : Rule
 file_rule = record (new_rule (codes "SCRIPT")) { required = true }
 
@@ -57,14 +57,14 @@ loop_command = with_flag (with_flag (with_rule (new_app (codes "loop")) file_rul
 abbrev pub with_command : App → App → App
 with_command a sub = with_subcommand a sub.top
 
--- words begin behind the program's name, one of them has to be a command, and there is a version to ask for
+-- words begin after the program's name, one of them must be a command, and there is a version to print
 abbrev pub with_settings : App → App
 with_settings a = record a { top = record a.top { no_binary_name = true; subcommand_required = true; has_version = true } }
 
 abbrev pub bare_command : App
 bare_command = with_settings (new_app (codes "bgp"))
 
--- what prints messages can print those alone that aren't accepted without a note, and NOTIFICATIONs; and in JSON
+-- a command that prints messages can leave out those accepted without a note, other than NOTIFICATIONs; and can print JSON
 abbrev pub with_printing : App → App
 with_printing a = with_flag (with_flag (with_judging a) (codes "only-faults")) (codes "json")
 
@@ -90,7 +90,7 @@ stream_commands = with_command (with_command rewriting_commands (new_app (codes 
 abbrev pub bgp_command : App
 bgp_command = with_command stream_commands loop_command
 
--- ---- what is asked for
+-- ---- the request
 
 -- a flag is set where its value is "true"
 abbrev pub is_true : Option Text → Bool
@@ -100,11 +100,11 @@ is_true (Some value) = bytes_eq value (codes "true")
 abbrev pub is_set : Text → List Row → Bool
 is_set name rows = is_true (first_of name rows)
 
--- the context that the flags make; no Hold Time is agreed on
+-- the context of the flags, without a Hold Time
 abbrev pub context_of : Bool → List Row → Context
 context_of as4 rows = record { internal = is_set (codes "internal") rows; as4 = as4; ip4 = is_set (codes "ip4") rows; ip6 = is_set (codes "ip6") rows; hold = 0 }
 
--- it is what the flags say, unless a file is named for it
+-- the session of the flags, unless a file is given for it
 abbrev pub session_by : Option Text → Context → Session
 session_by None ctx = Flags ctx
 session_by (Some file) ctx = Opens
@@ -115,17 +115,17 @@ session_of as4 rows = session_by (first_of (codes "opens") rows) (context_of as4
 abbrev pub judged_in : List Row → Session
 judged_in rows = session_of (is_set (codes "as4") rows) rows
 
--- the types of the list that a flag has; none of them without the flag
+-- the types in the list of a flag: none without the flag
 abbrev pub types_in : Option Text → Option (ℕ → Bool)
 types_in None = Some none_of_them
 types_in (Some list) = types_of list
 
--- the types of unrecognised attributes that are left out; none of both where a list isn't one
+-- the types of unrecognised attributes that are left out; None if a list is faulty
 abbrev pub drops_in : List Row → Option (ℕ → Bool)
 drops_in rows =
     if is_set (codes "drop-unknown") rows then option_map all_but (types_in (first_of (codes "pass") rows)) else types_in (first_of (codes "drop") rows)
 
--- what a command with these flags asks for, where a set has the types that are left out
+-- the request of a command with these flags, where a set has the types that are left out
 abbrev pub request_by : Text → List Row → OctetSet → Request
 request_by name rows drops =
     if bytes_eq name (codes "show") then Show (judged_in rows) (is_set (codes "hex") rows) (is_set (codes "json") rows) (is_set (codes "only-faults") rows) else (
@@ -137,12 +137,12 @@ request_by name rows drops =
     if bytes_eq name (codes "from-hex") then FromHex else
     Loop (is_set (codes "tcp") rows) (is_set (codes "trace") rows)))))))
 
--- the file that is named
+-- the file, or an empty name
 abbrev pub text_or_empty : Option Text → Text
 text_or_empty None = []
 text_or_empty (Some text) = text
 
--- the other direction's, or a script
+-- the file of the other direction, or a script
 abbrev pub first_file : Option Text → Option Text → Option Text
 first_file None script = script
 first_file (Some file) script = Some file
@@ -150,13 +150,13 @@ first_file (Some file) script = Some file
 abbrev pub file_in : List Row → Text
 file_in rows = text_or_empty (first_file (first_of (codes "opens") rows) (first_of (codes "SCRIPT") rows))
 
--- what a command with these flags asks for, and its file
+-- the request of a command with these flags, and its file
 pub record IsAsked (name : Text) (rows : List Row) (asked : Option (Request × Text)) : Type 0 where
   pub drops : OctetSet
   pub left_out : drops_in rows ≡ Some (has_octet drops)
   pub is : asked ≡ Some (request_by name rows drops, file_in rows)
 
--- the types that words leave out
+-- the types that a command line leaves out
 abbrev pub drops_by : Option (Text × List Row) → Option (ℕ → Bool)
 drops_by None = None
 drops_by (Some p) = drops_in p.1
@@ -164,40 +164,40 @@ drops_by (Some p) = drops_in p.1
 abbrev pub drops_of : List Text → Option (ℕ → Bool)
 drops_of words = drops_by (subcommand_of bgp_command words)
 
--- what words ask for, and their file, where a set has these types
+-- the request of a command line, and its file, where a set has these types
 abbrev pub request_of : List Text → OctetSet → Option (Request × Text)
 request_of words drops = option_map (λ p. (request_by p.0 p.1 drops, file_in p.1)) (subcommand_of bgp_command words)
 
--- the words ask for this, with this file
+-- the request of a command line is this, with this file
 pub record AsksFor (words : List Text) (request : Request) (file : Text) : Type 0 where
   pub drops : OctetSet
   pub left_out : drops_of words ≡ Some (has_octet drops)
   pub is : request_of words drops ≡ Some (request, file)
 
--- what a parse found is what is asked for; where it fails with no error, it found something
+-- what a parse found is the request; if it fails without an error, it found something
 abbrev pub Asks : List Text → Option (Request × Text) → Type 0
 Asks words None = ⊥
 Asks words (Some asked) = AsksFor words asked.0 asked.1
 
--- ---- the errors that words may meet
+-- ---- the errors of a command line
 
--- one of the flags is set that both OPENs tell
+-- one of the flags is set that both OPENs determine
 abbrev pub has_session_flag : List Row → Bool
 has_session_flag rows = is_set (codes "as4") rows || (is_set (codes "ip4") rows || (is_set (codes "ip6") rows || is_set (codes "internal") rows))
 
--- the session is told by both OPENs, and by flags too
+-- the session is given by both OPENs, and by flags too
 abbrev pub is_told_twice : List Row → Bool
 is_told_twice rows = is_some (first_of (codes "opens") rows) && has_session_flag rows
 
--- attributes are left out by type, and all unrecognised ones too
+-- attributes are left out by type, and all unrecognised ones are left out too
 abbrev pub drops_twice : List Row → Bool
 drops_twice rows = is_some (first_of (codes "drop") rows) && is_set (codes "drop-unknown") rows
 
--- types pass where not all are left out
+-- types pass, but not all are left out
 abbrev pub passes_alone : List Row → Bool
 passes_alone rows = is_some (first_of (codes "pass") rows) && not (is_set (codes "drop-unknown") rows)
 
--- the errors of flags that `clap` lets through
+-- the errors of flags that `clap` doesn't find
 abbrev pub kinds_in : List Row → Kinds
 kinds_in rows =
     if is_told_twice rows then error.ArgumentConflict ∷ [] else (
@@ -209,11 +209,11 @@ abbrev pub kinds_of : Option (Text × List Row) → Kinds
 kinds_of None = []
 kinds_of (Some p) = kinds_in p.1
 
--- those of a parse come first
+-- those of the parse come first
 abbrev pub first_kinds : Kinds → Kinds → Kinds
 first_kinds [] later = later
 first_kinds (kind ∷ kinds) later = kind ∷ kinds
 
--- the errors that words may meet, help that was asked for among them: none where they ask for something that can be done
+-- the errors of a command line, a request for help among them: none if the request can be carried out
 abbrev pub faults_of : List Text → Kinds
 faults_of words = first_kinds (fault_of bgp_command words) (kinds_of (subcommand_of bgp_command words))

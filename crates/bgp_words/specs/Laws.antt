@@ -10,7 +10,7 @@ use Rattle.bgp_words.specs.declared.request.Request.TheVariants.{Clean}
 use Rattle.bgp_words.specs.declared.request.Session.{Session}
 use Rattle.bgp_words.specs.CommandLine.{drops_of, faults_of, request_of}
 
--- the words meet no error, and ask for this, with this file: no attributes are left out
+-- the words have no error, and request this, with this file: no attributes are left out
 pub record CanBeDoneWith (words : List Text) (request : Request) (file : Text) : Type 0 where
   pub without_fault : faults_of words ≡ []
   pub asked : (drops : OctetSet) → request_of words drops ≡ Some (request, file)
@@ -19,7 +19,7 @@ pub record CanBeDoneWith (words : List Text) (request : Request) (file : Text) :
 abbrev pub CanBeDone : List Text → Request → Type 0
 CanBeDone words request = CanBeDoneWith words request []
 
--- the words meet no error, and ask to clean, with this file: unrecognised attributes of these types are left out
+-- the words have no error, and request `clean`, with this file: unrecognised attributes of these types are left out
 pub record CanBeCleaned (words : List Text) (session : Session) (hex : Bool) (file : Text) (types : ℕ → Bool) : Type 0 where
   pub without_fault : faults_of words ≡ []
   pub asked : (drops : OctetSet) → request_of words drops ≡ Some (Clean session hex drops, file)

@@ -1,4 +1,4 @@
--- What the words of the command line ask for.
+-- What the words of the command line request.
 pub mod TypeList
 pub mod CommandLine
 pub mod Laws

@@ -21,7 +21,7 @@ pub(crate) const DROP: &str = "drop";
 /// The flag that leaves out all unrecognised attributes.
 pub(crate) const DROP_UNKNOWN: &str = "drop-unknown";
 
-/// The flag with the types of those that are kept then.
+/// The flag with the types of those that are kept nevertheless.
 pub(crate) const PASS: &str = "pass";
 
 // A flag without a value.
@@ -35,7 +35,7 @@ fn flag<'a>(alloc: Global, name: &'a str, help: &'a str) -> Arg<'a>
         .action(ArgAction::SetTrue)
 }
 
-// A command with one flag more.
+// A command with one more flag.
 fn with_flag<'a>(
     alloc: Global,
     command: Command<'a>,
@@ -59,7 +59,7 @@ fn option<'a>(alloc: Global, name: &'a str, value: &'a str, help: &'a str) -> Ar
         .help(help)
 }
 
-// A command with one such flag more.
+// A command with one more flag that has a value.
 fn with_option<'a>(
     alloc: Global,
     command: Command<'a>,
@@ -73,7 +73,7 @@ fn with_option<'a>(
     command.arg(option(alloc, name, value, help))
 }
 
-// A command with the flags that families and kind of a session have.
+// A command with the flags for families and the kind of the session.
 fn with_families<'a>(alloc: Global, command: Command<'a>) -> Result<Command<'a>, AllocError>
     ensures shape { IfOk result (λ c. app_of c ≡ with_families (app_of command.entry)) }
     ensures local { IfOk result (λ c. (out-Command c).has_globals ≡ (out-Command command.entry).has_globals) }
@@ -93,7 +93,7 @@ fn with_families<'a>(alloc: Global, command: Command<'a>) -> Result<Command<'a>,
     with_flag(alloc, command, "internal", "Both speakers are of one AS")
 }
 
-// A command with what tells of a session.
+// A command with the flags that give the session.
 fn with_session<'a>(alloc: Global, command: Command<'a>) -> Result<Command<'a>, AllocError>
     ensures shape { IfOk result (λ c. app_of c ≡ with_session (app_of command.entry)) }
     ensures local { IfOk result (λ c. (out-Command c).has_globals ≡ (out-Command command.entry).has_globals) }
@@ -222,7 +222,7 @@ fn looping<'a>(alloc: Global) -> Result<Command<'a>, AllocError>
     )
 }
 
-// A command with one subcommand more.
+// A command with one more subcommand.
 fn with_command<'a>(command: Command<'a>, sub: Command<'a>) -> Result<Command<'a>, AllocError>
     requires { (out-Command sub).has_globals ≡ false }
     ensures { IfOk result (λ c. app_of c ≡ with_command (app_of command.entry) (app_of sub.entry)) }
@@ -365,7 +365,7 @@ fn judging<'a>(alloc: Global) -> Result<Command<'a>, AllocError>
     with_check(alloc, printing(alloc)?)
 }
 
-// A command with one subcommand more, which has no flags.
+// A command with one more subcommand, which has no flags.
 fn with_plain<'a>(
     alloc: Global,
     command: Command<'a>,
@@ -419,7 +419,7 @@ pub(crate) fn bgp<'a>(alloc: Global) -> Result<Command<'a>, AllocError>
     with_loop(alloc, streaming(alloc)?)
 }
 
-/// The command of this name, of those that judge messages, as the words name it.
+/// The command of this name, one of those that judge messages.
 pub(crate) fn judging_command<'a>(alloc: Global, name: &str) -> Result<Command<'a>, AllocError> {
     if name == "show" {
         return show(alloc)?.bin_name("bgp show");

@@ -1,4 +1,4 @@
-//! The error where the session is told twice: by both OPENs, and by flags.
+//! The error if the session is given twice: by both OPENs, and by flags.
 
 ghost use Rattle.std.specs.Prelude.{◌≡◌, IfOk};
 ghost use Rattle.clap.specs.Words.{found_of, kind_of, rows_of};
@@ -11,7 +11,7 @@ use clap::error::ErrorKind;
 use clap::{ArgMatches, Error};
 use std::alloc::{AllocError, Global};
 
-/// Whether one of the flags is set that both OPENs tell.
+/// Whether one of the flags is set that both OPENs determine.
 pub(crate) fn has_session_flag(flags: &ArgMatches<'_>) -> bool
     ensures { result ≡ has_session_flag (rows_of (found_of flags.now)) }
 {
@@ -21,7 +21,7 @@ pub(crate) fn has_session_flag(flags: &ArgMatches<'_>) -> bool
         || is_set(flags, "internal")
 }
 
-// The names of these flags that are set, each on a line of its own where there are more.
+// The names of these flags that are set, each on a line of its own if there are several.
 fn names(alloc: Global, flags: &ArgMatches<'_>) -> Result<String, AllocError> {
     let mut lines = String::new(alloc);
     let mut count = 0_u8;
@@ -39,7 +39,7 @@ fn names(alloc: Global, flags: &ArgMatches<'_>) -> Result<String, AllocError> {
     format!(in alloc; ":{lines}")
 }
 
-/// The error of a command whose words have a file for both OPENs, and flags beside it.
+/// The error of a command with a file for both OPENs and with flags.
 pub(crate) fn conflict(
     alloc: Global,
     name: &str,

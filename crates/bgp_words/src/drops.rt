@@ -14,7 +14,7 @@ use clap::error::ErrorKind;
 use clap::{ArgMatches, Error};
 use std::alloc::{AllocError, Global};
 
-// The types of the list that a flag has.
+// The types in the list of a flag.
 fn types_in(
     alloc: Global,
     flags: &ArgMatches<'_>,
@@ -28,7 +28,7 @@ fn types_in(
     }
 }
 
-/// The types that are left out, where each list is one.
+/// The types that are left out, if each list is valid.
 pub(crate) fn drops_in(
     alloc: Global,
     flags: &ArgMatches<'_>,
@@ -44,14 +44,14 @@ pub(crate) fn drops_in(
     }
 }
 
-/// Whether attributes are left out by type, and all unrecognised ones too.
+/// Whether attributes are left out by type, and all unrecognised ones are left out too.
 pub(crate) fn drops_twice(flags: &ArgMatches<'_>) -> bool
     ensures { result ≡ drops_twice (rows_of (found_of flags.now)) }
 {
     value_of(flags, DROP).is_some() && is_set(flags, DROP_UNKNOWN)
 }
 
-/// Whether types pass where not all are left out.
+/// Whether types pass, but not all are left out.
 pub(crate) fn passes_alone(flags: &ArgMatches<'_>) -> bool
     ensures { result ≡ passes_alone (rows_of (found_of flags.now)) }
 {
@@ -74,7 +74,7 @@ pub(crate) fn missing_drop_unknown(alloc: Global) -> Result<Error, AllocError>
     judging_command(alloc, "clean")?.error(ErrorKind::MissingRequiredArgument, text)
 }
 
-/// The error of a list that isn't one.
+/// The error of a faulty list.
 pub(crate) fn bad_list(alloc: Global, flags: &ArgMatches<'_>) -> Result<Error, AllocError>
     ensures { IfOk result (λ e. kind_of e ≡ error.InvalidValue) }
 {

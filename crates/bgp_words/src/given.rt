@@ -6,7 +6,7 @@ ghost use Rattle.bgp_words.specs.CommandLine.{is_set};
 
 use clap::ArgMatches;
 
-/// The value of an argument, where it has one.
+/// The value of an argument, if it has one.
 pub(crate) fn value_of<'a>(found: &ArgMatches<'a>, name: &str) -> Option<&'a str>
     ensures { option_map (λ s. s.now) result ≡ first_of name.now (rows_of (found_of found.now)) }
 {

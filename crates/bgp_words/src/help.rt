@@ -1,4 +1,4 @@
-//! What help says behind the list of flags, in lines of at most 80 columns.
+//! The text of help after the list of flags, in lines of at most 80 columns.
 
 pub(crate) const HELP: &str =
     "Each command but `loop` reads one direction of a session from standard input,\nfrom its first octet on; all write to standard output.\n\nStatus: 0 where all is clean, or was cleaned; 1 at a treat-as-withdraw, a reset,\nan incomplete last message, bad hexadecimal text, a message that can't be\nnarrowed or cleaned, no OPEN to agree with, or a faulty script; 2 at a fault of\nthe command line; 3 where an allocation failed; 4 where a read, a write or the\nset-up of a listener failed.\n\nExample:\n  echo ffffffffffffffffffffffffffffffff001304 | bgp show --hex";

@@ -1,30 +1,30 @@
-//! What input looks like that isn't a stream of BGP messages, by its first octets; and where a character of text stands.
+//! What input that isn't a stream of BGP messages looks like, by its first octets; and the position of a character in a text.
 
 ghost use Rattle.std.specs.Prelude.{◌≡◌};
 ghost use Rattle.bgp_words.specs.Hints.{are_all, dump_of, eighth, front_number, has_seven_digits, is_archived, is_bmp, is_digit, is_digit_or_space, is_mrt, is_pcap, is_printed, is_space, look_of, next_spot, ninth, one_more, spot_behind, text_of, left_unsaid};
 
 use bgp_open::{Context, Peer};
 
-/// What input looks like that isn't a stream of BGP messages.
+/// What input that isn't a stream of BGP messages looks like.
 #[derive(Clone, Copy, PartialEq, Eq)]
 pub enum Look {
-    /// A file of packets, as tcpdump writes it.
+    /// A packet capture of tcpdump (pcap).
     Pcap,
-    /// A file of packets, as Wireshark writes it.
+    /// A packet capture of Wireshark (pcapng).
     PcapNg,
     /// An archive of routes (MRT, RFC 6396).
     Mrt,
-    /// What `gzip` compressed.
+    /// Output of `gzip`.
     Gzip,
-    /// What `bzip2` compressed.
+    /// Output of `bzip2`.
     Bzip2,
     /// A stream of BMP (RFC 7854).
     Bmp,
-    /// What `xxd` prints.
+    /// Output of `xxd`.
     Xxd,
-    /// What `hexdump -C` prints.
+    /// Output of `hexdump -C`.
     HexdumpC,
-    /// What `hexdump` or `od` prints: numbers of two octets.
+    /// Output of `hexdump` or `od`: numbers of two octets.
     Words,
     /// Hexadecimal text.
     Digits,
@@ -32,7 +32,7 @@ pub enum Look {
     Text,
 }
 
-/// Where a character of a text stands, counted from 1.
+/// The position of a character in a text, counted from 1.
 #[derive(Clone, Copy, PartialEq, Eq)]
 pub struct Spot {
     pub line: u64,
@@ -46,7 +46,7 @@ pub struct Unsaid {
     pub as4: bool,
     /// IPv4 unicast in multiprotocol attributes.
     pub ip4: bool,
-    /// IPv6 unicast there.
+    /// IPv6 unicast in multiprotocol attributes.
     pub ip6: bool,
 }
 
@@ -61,7 +61,7 @@ pub fn left_unsaid(ctx: &Context, peer: &Peer) -> Unsaid
     }
 }
 
-// The number of the first four octets: 0 where there are fewer.
+// The number in the first four octets: 0 if there are fewer.
 fn front_number(octets: &[u8]) -> u32
     ensures { result ≡ front_number octets.now }
 {
@@ -71,21 +71,21 @@ fn front_number(octets: &[u8]) -> u32
     }
 }
 
-// Whether this begins a file of packets, of either order of octets, with times in microseconds or in nanoseconds.
+// Whether this begins a packet capture, of either byte order, with times in microseconds or in nanoseconds.
 fn is_pcap(number: u32) -> bool
     ensures { result ≡ is_pcap number }
 {
     number == 0xa1b2_c3d4 || number == 0xd4c3_b2a1 || number == 0xa1b2_3c4d || number == 0x4d3c_b2a1
 }
 
-// Whether archives have messages of this type: TABLE_DUMP, TABLE_DUMP_V2, BGP4MP and BGP4MP_ET.
+// Whether archives have this MRT type: TABLE_DUMP, TABLE_DUMP_V2, BGP4MP and BGP4MP_ET.
 fn is_archived(kind: u8) -> bool
     ensures { result ≡ is_archived kind }
 {
     kind == 12 || kind == 13 || kind == 16 || kind == 17
 }
 
-// Whether a header of MRT begins these: of a type that archives have, below 16 MiB.
+// Whether octets begin with an MRT header: of a type in archives, below 16 MiB.
 fn is_mrt(octets: &[u8]) -> bool
     ensures { result ≡ is_mrt octets.now }
 {
@@ -97,7 +97,7 @@ fn is_mrt(octets: &[u8]) -> bool
     }
 }
 
-// Whether a header of BMP begins these: below 64 KiB.
+// Whether octets begin with a BMP header: below 64 KiB.
 fn is_bmp(octets: &[u8]) -> bool
     ensures { result ≡ is_bmp octets.now }
 {
@@ -115,7 +115,7 @@ fn is_digit(character: u8) -> bool
         || character >= b'A' && character <= b'F'
 }
 
-// Whether seven digits begin a text.
+// Whether a text begins with seven digits.
 fn has_seven_digits(text: &[u8]) -> bool
     ensures { result ≡ has_seven_digits text.now }
 {
@@ -133,7 +133,7 @@ fn has_seven_digits(text: &[u8]) -> bool
     }
 }
 
-// The eighth character: 0 where there are fewer.
+// The eighth character: 0 if there are fewer.
 fn eighth(text: &[u8]) -> u8
     ensures { result ≡ eighth text.now }
 {
@@ -143,7 +143,7 @@ fn eighth(text: &[u8]) -> u8
     }
 }
 
-// The ninth one.
+// The ninth character: 0 if there are fewer.
 fn ninth(text: &[u8]) -> u8
     ensures { result ≡ ninth text.now }
 {
@@ -153,7 +153,7 @@ fn ninth(text: &[u8]) -> u8
     }
 }
 
-/// What a text looks like that an offset begins.
+/// What a text that begins with an offset looks like.
 pub fn dump_of(text: &[u8]) -> Option<Look>
     ensures { result ≡ dump_of text.now }
 {
@@ -188,14 +188,14 @@ fn is_digit_or_space(character: u8) -> bool
     is_digit(character) || is_space(character)
 }
 
-/// Whether a character is one of ASCII that is printed, or a space.
+/// Whether a character is printable ASCII, or a space.
 pub fn is_printed(character: u8) -> bool
     ensures { result ≡ is_printed character }
 {
     character >= 33 && character <= 126 || is_space(character)
 }
 
-// Whether a text has digits and spaces alone.
+// Whether a text has only digits and spaces.
 #[tactic(auto, unfolding(crate::specs::Hints::are_all))]
 fn are_digits(text: &[u8]) -> bool
     ensures { result ≡ are_all is_digit_or_space text.now }
@@ -210,7 +210,7 @@ fn are_digits(text: &[u8]) -> bool
     true
 }
 
-// Whether each of its characters is printed.
+// Whether each of its characters is printable.
 #[tactic(auto, unfolding(crate::specs::Hints::are_all))]
 fn are_printed(text: &[u8]) -> bool
     ensures { result ≡ are_all is_printed text.now }
@@ -225,7 +225,7 @@ fn are_printed(text: &[u8]) -> bool
     true
 }
 
-// What text looks like: digits alone, or else.
+// A text of digits only, or another.
 fn text_of(text: &[u8]) -> Option<Look>
     ensures { result ≡ text_of text.now }
 {
@@ -268,7 +268,7 @@ pub fn look_of(first: &[u8]) -> Option<Look>
     }
 }
 
-// One more, where 64 bits have it.
+// One more, if that fits 64 bits.
 fn one_more(number: u64) -> u64
     ensures { result ≡ one_more number }
 {
@@ -279,7 +279,7 @@ fn one_more(number: u64) -> u64
     }
 }
 
-// Where the text goes on behind a character.
+// The position after a character.
 fn next_spot(at: Spot, character: u8) -> Spot
     ensures { result ≡ next_spot at character }
 {
@@ -296,7 +296,7 @@ fn next_spot(at: Spot, character: u8) -> Spot
     }
 }
 
-/// Where it goes on behind a text that begins at a place.
+/// The position after a text that begins at one.
 #[tactic(auto, unfolding(crate::specs::Hints::spot_behind))]
 pub fn spot_behind(at: Spot, text: &[u8]) -> Spot
     ensures { result ≡ spot_behind at text.now }

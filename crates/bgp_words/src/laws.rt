@@ -10,7 +10,7 @@ ghost use Rattle.bgp_words.specs.CommandLine.{drops_of, faults_of};
 ghost use Rattle.bgp_words.specs.TypeList.{all_but};
 ghost use Rattle.bgp_words.specs.Laws.{AreUnrecognised, CanBeCleaned, CanBeDone, CanBeDoneWith, flags};
 
-/// What a user types for each command, without flags and with all of them.
+/// The command line of each command, without flags and with all of them.
 pub fn words_have_one_meaning()
     ensures show { CanBeDone (codes "show" ∷ []) (Show (Flags (flags false false)) false false false) }
     ensures show_hex { CanBeDone (codes "show" ∷ codes "--hex" ∷ codes "--as4" ∷ codes "--ip4" ∷ codes "--ip6" ∷ codes "--internal" ∷ []) (Show (Flags (flags true true)) true false false) }
@@ -43,8 +43,8 @@ pub fn words_have_one_meaning()
     ensures runs_both { CanBeDoneWith (codes "loop" ∷ codes "--trace" ∷ codes "--tcp" ∷ codes "two.script" ∷ []) (Loop true true) (codes "two.script") }
 {}
 
-/// No word is too few, `--help` asks for help and `--version` for the version, a flag belongs to its commands, what both OPENs tell isn't
-/// told by flags too, and a list is numbers from 0 to 255 with commas between, of types that aren't recognised.
+/// At least one word is needed, `--help` requests help and `--version` the version, a flag belongs to its commands, the session isn't given
+/// by both OPENs and flags too, and a list is numbers from 0 to 255 with commas between, of types that aren't recognised.
 pub fn words_can_be_wrong()
     ensures nothing { faults_of [] ≡ error.MissingSubcommand ∷ [] }
     ensures help { faults_of (codes "--help" ∷ []) ≡ error.DisplayHelp ∷ [] }
@@ -71,7 +71,7 @@ pub fn words_can_be_wrong()
     ensures pass_recognised { faults_of (codes "clean" ∷ codes "--drop-unknown" ∷ codes "--pass" ∷ codes "1" ∷ []) ≡ error.InvalidValue ∷ [] }
 {}
 
-/// Whatever words ask for, nothing that is recognised is left out.
+/// Whatever the command line, nothing that is recognised is left out.
 pub fn nothing_recognised_is_left_out()
     ensures { (words : List Text) (types : ℕ → Bool) → drops_of words ≡ Some types → AreUnrecognised types }
 {}

@@ -1,4 +1,4 @@
-//! The words of the command line of `bgp`, and what they ask for, of which nothing is read or written; and what the other programs have in common.
+//! The words of the command line of `bgp`, and what they request, without reading or writing anything; and what the other programs share.
 #![tactic(auto)]
 
 mod commands;

@@ -1,4 +1,4 @@
-//! What the programs beside `bgp` have in common: flags in a table, and what is told, and answered, where they can't go on.
+//! What the programs other than `bgp` share: flags in a table, error reports, and exit statuses.
 
 use clap::error::ErrorKind;
 use clap::{Arg, ArgAction, Command, Error};
@@ -14,20 +14,20 @@ const MEMORY: u8 = 3;
 /// A read, a write, a clock or a socket failed.
 pub const BROKEN: u8 = 4;
 
-/// What stands behind a flag.
+/// What follows a flag.
 #[derive(Clone, Copy)]
 pub enum Behind {
     /// Nothing.
     Nothing,
     /// A value of this name.
     Value(&'static str),
-    /// A value of this name, and the flag may be there again.
+    /// A value of this name, and the flag may be repeated.
     Values(&'static str),
-    /// A value of this name, and the flag has to be there.
+    /// A value of this name, and the flag is required.
     Needed(&'static str),
 }
 
-// A flag of that name, with what stands behind it.
+// A flag of this name, with what follows it.
 fn flag<'a>(alloc: Global, name: &'a str, behind: Behind, help: &'a str) -> Arg<'a> {
     let flag = Arg::new(alloc, name).long(name).help(help);
     match behind {
@@ -38,7 +38,7 @@ fn flag<'a>(alloc: Global, name: &'a str, behind: Behind, help: &'a str) -> Arg<
     }
 }
 
-/// A command with these flags too: of each its name, what stands behind it, and its help.
+/// A command with these flags too: for each its name, what follows it, and its help.
 ///
 /// # Errors
 /// `AllocError` where an allocation failed.
@@ -54,7 +54,7 @@ pub fn with_flags<'a>(
     Ok(command)
 }
 
-/// The error of a value that a command doesn't take.
+/// The error of a value that a command doesn't accept.
 pub fn bad_value(command: Result<Command<'_>, AllocError>, text: &str) -> Error {
     match command {
         Ok(mut command) => match command.error(ErrorKind::ValueValidation, text) {
@@ -65,17 +65,17 @@ pub fn bad_value(command: Result<Command<'_>, AllocError>, text: &str) -> Error 
     }
 }
 
-/// The words behind a program's name.
+/// The words after a program's name.
 pub fn words(rt: &HostRuntime) -> io::Result<Vec<String>> {
     Ok(env::args(rt)?.skip(1).collect(rt.alloc())?)
 }
 
-/// Tells a program's fault on standard error. A write that fails changes nothing.
+/// Reports a program's fault on standard error. A write that fails is ignored.
 pub fn tell(rt: &HostRuntime, program: &str, fault: &str) {
     let _ = eprintln!(rt; "{program}: {fault}");
 }
 
-/// Tells an error, and answers its status.
+/// Reports an error, and returns its status.
 pub fn status_of(rt: &HostRuntime, program: &str, error: &io::Error) -> u8 {
     if error.kind() == io::ErrorKind::OutOfMemory {
         tell(rt, program, "memory");
@@ -85,7 +85,7 @@ pub fn status_of(rt: &HostRuntime, program: &str, error: &io::Error) -> u8 {
     BROKEN
 }
 
-/// Prints the text of a command line that asks for nothing that can be done, help or a fault, and answers the status.
+/// Prints the text of a command line that can't be carried out, help or a fault, and returns the status.
 pub fn explain(rt: &HostRuntime, program: &str, error: &Error) -> u8 {
     if error.kind() == ErrorKind::OutOfMemory {
         tell(rt, program, "memory");

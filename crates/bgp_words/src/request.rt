@@ -1,4 +1,4 @@
-//! What the words of the command line ask for.
+//! What the words of the command line request.
 
 ghost use Rattle.std.specs.Prelude.{◌≡◌, codes, map, true, Some, option_map, IfOk};
 ghost use Rattle.clap.specs.Words.{FailsBy, first_of, found_of, rows_of};
@@ -15,20 +15,20 @@ use bgp_wire::OctetSet;
 use clap::{ArgMatches, Error};
 use std::alloc::Global;
 
-/// What tells the context of a session.
+/// What gives the context of a session.
 #[derive(Clone, Copy)]
 pub enum Session {
-    /// The flags, which make this context.
+    /// The flags, which give this context.
     Flags(Context),
     /// The OPENs of both directions: a file has the octets of the other one.
     Opens,
 }
 
-/// What the words ask for.
+/// The request of a command line.
 #[derive(Clone, Copy)]
 pub enum Request {
-    /// `show`, of octets or, where `hex` is set, of hexadecimal text; in lines of text or, where `json` is set, of JSON; where `only_faults` is set, what
-    /// isn't accepted without a note and NOTIFICATIONs alone.
+    /// `show`, of octets or, if `hex` is set, of hexadecimal text; in lines of text or, if `json` is set, of JSON; if `only_faults` is set, only
+    /// NOTIFICATIONs and what isn't accepted without a note.
     Show {
         session: Session,
         hex: bool,
@@ -61,14 +61,14 @@ pub enum Request {
     ToHex,
     /// `from-hex`.
     FromHex,
-    /// `loop`, over TCP where `tcp` is set, else in memory; with what comes of each move where `trace` is set.
+    /// `loop`, over TCP if `tcp` is set, else in memory; with the outcome of each move if `trace` is set.
     Loop {
         tcp: bool,
         trace: bool,
     },
 }
 
-/// What the words ask for, and the file that they name: empty where they name none.
+/// The request of a command line, and the file that it names: empty if it names none.
 #[derive(Clone, Copy)]
 pub struct Asked<'a> {
     /// The command and its flags.
@@ -77,7 +77,7 @@ pub struct Asked<'a> {
     pub file: &'a str,
 }
 
-// The context that the flags make.
+// The context of the flags.
 fn context(flags: &ArgMatches<'_>, as4: bool) -> Context
     ensures { result ≡ context_of as4 (rows_of (found_of flags.now)) }
 {
@@ -90,7 +90,7 @@ fn context(flags: &ArgMatches<'_>, as4: bool) -> Context
     }
 }
 
-// What tells the context: the flags, unless a file is named for it.
+// What gives the context: the flags, unless a file is given for it.
 fn session_of(flags: &ArgMatches<'_>, as4: bool) -> Session
     ensures { result ≡ session_of as4 (rows_of (found_of flags.now)) }
 {
@@ -100,7 +100,7 @@ fn session_of(flags: &ArgMatches<'_>, as4: bool) -> Session
     }
 }
 
-// What tells the context of a command that shows or checks.
+// What gives the context of a command that shows or checks.
 fn judged_in(flags: &ArgMatches<'_>) -> Session
     ensures { result ≡ judged_in (rows_of (found_of flags.now)) }
 {
@@ -108,7 +108,7 @@ fn judged_in(flags: &ArgMatches<'_>) -> Session
     session_of(flags, as4)
 }
 
-// What a command asks for with these flags, where attributes of these types are left out.
+// The request of a command with these flags, where attributes of these types are left out.
 fn asked_by(name: &str, flags: &ArgMatches<'_>, drops: OctetSet) -> Request
     ensures { result ≡ request_by name.now (rows_of (found_of flags.now)) drops }
 {
@@ -178,14 +178,14 @@ fn file_of<'a>(flags: &ArgMatches<'a>) -> &'a str
     }
 }
 
-// Whether the context is told twice.
+// Whether the context is given twice.
 fn is_told_twice(flags: &ArgMatches<'_>) -> bool
     ensures { result ≡ is_told_twice (rows_of (found_of flags.now)) }
 {
     value_of(flags, OPENS).is_some() && has_session_flag(flags)
 }
 
-// What the words of a command ask for, where nothing is told twice and each list is one.
+// The request of a command, if nothing is given twice and each list is valid.
 fn ask<'a>(alloc: Global, name: &str, flags: &ArgMatches<'a>) -> Result<Option<Asked<'a>>, Error>
     ensures faults { FailsBy (kinds_in (rows_of (found_of flags.now))) result }
     ensures asked { IfOk result (λ found. IsAsked name.now (rows_of (found_of flags.now)) (option_map (λ asked. (asked.request, asked.file.now)) found)) }
@@ -208,7 +208,7 @@ fn ask<'a>(alloc: Global, name: &str, flags: &ArgMatches<'a>) -> Result<Option<A
     }
 }
 
-/// The request of the words, which stand without the program's name.
+/// The request of the words, which don't include the program's name.
 pub fn parse<'a>(alloc: Global, words: &'a [&'a str]) -> Result<Option<Asked<'a>>, Error>
     ensures faults { FailsBy (faults_of (map (λ w. w.now) words.now)) result }
     ensures asked { IfOk result (λ found. Asks (map (λ w. w.now) words.now) (option_map (λ asked. (asked.request, asked.file.now)) found)) }

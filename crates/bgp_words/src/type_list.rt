@@ -16,7 +16,7 @@ fn words_of<'a>(alloc: Global, list: &'a str) -> Result<Vec<&'a str>, AllocError
     list.split(',').collect(alloc)
 }
 
-// The number that decimal digits alone make, where it is at most 255.
+// The number of decimal digits, if there is no other character and it is at most 255.
 fn octet_of(word: &str) -> Option<u8>
     ensures { result ≡ octet_of word.now }
 {
@@ -26,7 +26,7 @@ fn octet_of(word: &str) -> Option<u8>
     word.parse::<u8>().ok()
 }
 
-// The type that a word names, where it is one that isn't recognised.
+// The type that a word names, if that isn't recognised.
 fn type_of(word: &str) -> Option<u8>
     ensures { result ≡ type_of word.now }
 {
@@ -36,7 +36,7 @@ fn type_of(word: &str) -> Option<u8>
     }
 }
 
-/// The types of a list, where it is one.
+/// The types of a list, if it is valid.
 pub fn types_of(alloc: Global, list: &str) -> Result<Option<OctetSet>, AllocError>
     ensures { IfOk result (λ types. option_map has_octet types ≡ types_of list.now) }
 {
@@ -51,7 +51,7 @@ pub fn types_of(alloc: Global, list: &str) -> Result<Option<OctetSet>, AllocErro
     Ok(Some(types))
 }
 
-/// What is wrong with the first word that is wrong in a list.
+/// What is wrong with the first faulty word of a list.
 pub fn list_fault(alloc: Global, list: &str) -> Result<String, AllocError> {
     for word in list.split(',') {
         match octet_of(word) {
@@ -65,7 +65,7 @@ pub fn list_fault(alloc: Global, list: &str) -> Result<String, AllocError> {
     format!(in alloc; "it is no list of types")
 }
 
-/// Every type that isn't recognised, but these.
+/// Every type that isn't recognised, except these.
 pub fn all_but(types: OctetSet) -> OctetSet
     ensures { has_octet result ≡ all_but (has_octet types) }
 {

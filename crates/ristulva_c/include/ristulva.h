@@ -2,19 +2,19 @@
  *
  * Each function is proved to do what its contract says, for every input; the comments below say the same in words.
  *
- * The caller owns every octet. No call keeps a pointer, gives one back, calls back, reads outside of what it is handed, or writes
- * elsewhere than through the pointers that it is handed. A call only allocates where its comment says so, and frees what it took
- * before it returns. There is no state but what the caller holds: calls are thread safe, unless two of them write the same memory or
- * are handed the same handle. Decoders, sessions and guards alone (below) are memory of the library's, behind a handle of the caller's.
+ * The caller owns every octet. No call keeps a pointer, returns one, calls back, reads outside of what it is given, or writes elsewhere than
+ * through the pointers that it is given. A call only allocates where its comment says so, and frees that before it returns. There is no state but
+ * what the caller holds: calls are thread safe, unless two of them write the same memory or are given the same handle. Only decoders, sessions and
+ * guards (below) are memory of the library's, behind a handle of the caller's.
  *
  * Of every call:
- *  - Pointers aren't null, but where the length beside one is 0 (as the end of this header has it).
- *  - What a call writes (`out`, `cursor`, a buffer, a length) overlaps nothing else that it is handed.
+ *  - Pointers aren't null, but where the length beside one is 0 (see the end of this header).
+ *  - What a call writes (`out`, `cursor`, a buffer, a length) overlaps nothing else that it is given.
  *  - Octets are `const uint8_t *octets, size_t len`. A message has at most 4096 of them (RFC 4271, section 4.1).
- *  - It answers a status. Where that isn't RISTULVA_OK, what it says of each status holds.
+ *  - It answers a status. Where that isn't RISTULVA_OK, what this header says of each status holds.
  *  - 32 KB of stack are enough, and 56 KB for ristulva_session_send, ristulva_clean, ristulva_guard_new and ristulva_guard_hear.
  *
- * Positions are offsets into the caller's buffer: so a message is viewed there, and nothing is copied.
+ * Positions are offsets into the caller's buffer: a message is viewed there, and nothing is copied.
  */
 #ifndef RISTULVA_H
 #define RISTULVA_H
@@ -45,9 +45,9 @@ typedef uint32_t ristulva_status;
 #define RISTULVA_MEMORY 2u     /* an allocation failed: nothing has changed, and the call can be made again */
 #define RISTULVA_RANGE 3u      /* a number, a span or a length is out of its range: nothing has changed */
 #define RISTULVA_INCOMPLETE 4u /* the octets are an incomplete message: nothing has changed */
-#define RISTULVA_ROOM 5u       /* a buffer has less room than is needed */
-#define RISTULVA_END 6u        /* nothing is left: nothing has changed */
-#define RISTULVA_REFUSED 7u    /* no UPDATE that is accepted (whole, where it is to be written), or no OPEN that is: nothing has changed */
+#define RISTULVA_ROOM 5u       /* a buffer has too little room */
+#define RISTULVA_END 6u        /* nothing remains: nothing has changed */
+#define RISTULVA_REFUSED 7u    /* no accepted UPDATE (whole, where it is to be written), or no accepted OPEN: nothing has changed */
 #define RISTULVA_UNWRITABLE 8u /* an UPDATE that can't be written: nothing has changed */
 #define RISTULVA_STATE 9u      /* the session or the guard isn't in a state for this, or the decoder has stopped: nothing has changed */
 #define RISTULVA_CONFIG 10u    /* the configuration isn't one that is allowed: nothing has changed */
@@ -124,7 +124,7 @@ typedef struct {
 #define RISTULVA_ERROR_ROUTE_REFRESH 7u
 #define RISTULVA_ERROR_SEND_HOLD_TIMER 8u
 
-/* Their subcodes; 0 says nothing more (RFC 4271, section 6). */
+/* Their subcodes; 0 is unspecific (RFC 4271, section 6). */
 #define RISTULVA_ERROR_HEADER_NOT_SYNCHRONIZED 1u
 #define RISTULVA_ERROR_HEADER_BAD_LENGTH 2u
 #define RISTULVA_ERROR_HEADER_BAD_TYPE 3u
@@ -165,29 +165,29 @@ typedef struct {
 
 #define RISTULVA_ERROR_REFRESH_INVALID_LENGTH 1u
 
-/* What ristulva_name has names of. */
-#define RISTULVA_NAME_STATUS 1u     /* what a call answers */
+/* The kinds of numbers that ristulva_name has names for. */
+#define RISTULVA_NAME_STATUS 1u     /* a status of a call */
 #define RISTULVA_NAME_WHY 2u        /* a reason of a note, RISTULVA_WHY_FLAGS to RISTULVA_WHY_AS_ZERO, as `bgp show` prints it */
 #define RISTULVA_NAME_ATTRIBUTE 3u  /* a type of path attribute */
 #define RISTULVA_NAME_CAPABILITY 4u /* a code of a capability */
 #define RISTULVA_NAME_ERROR 5u      /* a code of a NOTIFICATION */
 #define RISTULVA_NAME_SUBCODE 6u    /* a subcode of one */
 
-/* Room that is enough for each name. */
+/* Enough room for each name. */
 #define RISTULVA_NAME 64u
 
 /* Writes the name of a number of this kind to the beginning of `text`, which has room for `room` octets; it isn't terminated by NUL, and the rest
- * of the buffer is unchanged. `subcode` counts for RISTULVA_NAME_SUBCODE alone, where `number` is the code. `written` is how many octets the name
- * has: 0 where the number has none here. It allocates nothing.
+ * of the buffer is unchanged. `subcode` counts only for RISTULVA_NAME_SUBCODE, where `number` is the code. `written` is the length of the name: 0
+ * where the number has none here. It allocates nothing.
  *
- * RISTULVA_RANGE: `kind` is none of those above; nothing is written. RISTULVA_ROOM: `written` is, and says how much room is needed. */
+ * RISTULVA_RANGE: `kind` is none of those above; nothing is written. RISTULVA_ROOM: `written` is, with the room that is needed. */
 ristulva_status ristulva_name(uint8_t kind, uint8_t number, uint8_t subcode, char *text, size_t room, size_t *written);
 
 /* ---- the first message of a stream (RFC 4271, sections 4.1 and 6.1) ---- */
 
 #define RISTULVA_MORE 0u  /* an incomplete message */
 #define RISTULVA_FOUND 1u /* a complete message */
-#define RISTULVA_FAULT 2u /* a header that begins no message: nothing behind it can be read */
+#define RISTULVA_FAULT 2u /* a header that doesn't begin a message: nothing after it can be read */
 
 typedef struct {
     uint8_t what; /* RISTULVA_MORE, RISTULVA_FOUND or RISTULVA_FAULT */
@@ -196,15 +196,14 @@ typedef struct {
     /* RISTULVA_FAULT: code and subcode of the NOTIFICATION that answers it, 1 and 1 to 3. Else 0. */
     uint8_t code;
     uint8_t subcode;
-    /* RISTULVA_FOUND: the message's octets, header included. RISTULVA_MORE: how many octets the message will have at least: 19 until
-     * its header is there, then what that says. RISTULVA_FAULT: 0. */
+    /* RISTULVA_FOUND: the message's length, header included. RISTULVA_MORE: the least length that the message will have: 19 until its header is
+     * complete, then what that says. RISTULVA_FAULT: 0. */
     uint32_t len;
-    /* RISTULVA_FAULT: where the data of that NOTIFICATION lie, the field that is at fault: `len` is 0 for a Marker, 2 for a Length,
-     * 1 for a type. Else of no octets. */
+    /* RISTULVA_FAULT: the data of that NOTIFICATION, which is the faulty field: `len` is 0 for a Marker, 2 for a Length, 1 for a type. Else empty. */
     ristulva_span data;
 } ristulva_found;
 
-/* Classifies the first message of a stream; octets behind it are ignored. Always RISTULVA_OK. */
+/* Classifies the first message of a stream; octets after it are ignored. Always RISTULVA_OK. */
 ristulva_status ristulva_front(const uint8_t *octets, size_t len, ristulva_found *out);
 
 /* ---- the outcome of a message (RFC 4271, section 6; RFC 7606) ---- */
@@ -212,19 +211,19 @@ ristulva_status ristulva_front(const uint8_t *octets, size_t len, ristulva_found
 /* What both speakers of the session agreed on. Each is 0 for no, and any other number for yes. */
 typedef struct {
     uint8_t internal; /* both have the same AS number */
-    uint8_t as4;      /* both offer AS numbers of four octets (RFC 6793) */
+    uint8_t as4;      /* both offer 4-octet AS numbers (RFC 6793) */
     uint8_t ip4;      /* both offer IPv4 unicast (RFC 4760, section 8) */
     uint8_t ip6;      /* both offer IPv6 unicast */
 } ristulva_context;
 
 #define RISTULVA_OPEN 1u         /* an OPEN is accepted */
 #define RISTULVA_UPDATE 2u       /* an UPDATE is accepted */
-#define RISTULVA_NOTIFICATION 3u /* a NOTIFICATION came: the peer has ended the session */
+#define RISTULVA_NOTIFICATION 3u /* a NOTIFICATION was received: the peer has ended the session */
 #define RISTULVA_KEEPALIVE 4u    /* a KEEPALIVE is accepted */
 #define RISTULVA_WITHDRAW 5u     /* an UPDATE is treated as a withdrawal of all its routes (RFC 7606, section 2) */
 #define RISTULVA_RESET 6u        /* the session ends, by a NOTIFICATION to the peer */
 
-/* Where the parts of an UPDATE lie (RFC 4271, section 4.3). */
+/* The parts of an UPDATE (RFC 4271, section 4.3). */
 typedef struct {
     ristulva_span withdrawn;  /* Withdrawn Routes */
     ristulva_span attributes; /* Path Attributes */
@@ -234,25 +233,25 @@ typedef struct {
 typedef struct {
     uint8_t verdict; /* RISTULVA_OPEN to RISTULVA_RESET */
     uint8_t kind;    /* the message's type, 1 to 4; 0 where its header has a fault */
-    /* RISTULVA_NOTIFICATION and RISTULVA_RESET: code and subcode of the NOTIFICATION that came, or is to be sent (RFC 4271,
-     * section 4.5). Else 0. */
+    /* RISTULVA_NOTIFICATION and RISTULVA_RESET: code and subcode of the NOTIFICATION that was received, or is to be sent (RFC 4271, section 4.5).
+     * Else 0. */
     uint8_t code;
     uint8_t subcode;
-    uint32_t len; /* the message's octets; 0 where its header has a fault */
-    /* How many octets that NOTIFICATION's Data field has: at most RISTULVA_DATA. */
+    uint32_t len; /* the message's length; 0 where its header has a fault */
+    /* The length of that NOTIFICATION's Data field: at most RISTULVA_DATA. */
     uint32_t data_len;
-    /* Of an UPDATE, where its lengths leave room for each other; else of no octets, at 0. */
+    /* Of an UPDATE, where its lengths leave room for each other; else empty, at 0. */
     ristulva_parts parts;
 } ristulva_verdict;
 
-/* The most octets of a NOTIFICATION's Data field. */
+/* The greatest length of a NOTIFICATION's Data field. */
 #define RISTULVA_DATA 4075u
 
-/* Judges the first message of the octets, in the context of its session; octets behind it are ignored. No verdict depends on other
- * messages, nor on memory.
+/* Judges the first message of the octets, in the context of its session; octets after it are ignored. No verdict depends on other messages, nor on
+ * memory.
  *
- * The Data field of the NOTIFICATION that came or that is to be sent is copied to the beginning of `data`, which has room for `room` octets;
- * the rest of the buffer is unchanged. RISTULVA_DATA octets of room are always enough.
+ * The Data field of the NOTIFICATION that was received or that is to be sent is copied to the beginning of `data`, which has room for `room`
+ * octets; the rest of the buffer is unchanged. RISTULVA_DATA octets of room are always enough.
  *
  * RISTULVA_INCOMPLETE: nothing is written. RISTULVA_ROOM: `out` is written, with the `data_len` that is needed; `data` isn't. */
 ristulva_status ristulva_judge(const ristulva_context *context, const uint8_t *octets, size_t len, uint8_t *data, size_t room,
@@ -278,7 +277,7 @@ ristulva_status ristulva_judge(const ristulva_context *context, const uint8_t *o
 #define RISTULVA_WHY_AS_ZERO 15u      /* an AS number 0 (RFC 7607) */
 
 typedef struct {
-    uint32_t at;  /* where the attribute's flags stand in the message; 0 for one that is missing */
+    uint32_t at;  /* the offset of the attribute's flags in the message; 0 for one that is missing */
     uint8_t kind; /* its type; 0 for one that is cut off before its type */
     uint8_t why;  /* RISTULVA_WHY_FLAGS to RISTULVA_WHY_AS_ZERO */
 } ristulva_note_found;
@@ -286,10 +285,10 @@ typedef struct {
 /* The most notes of a message. */
 #define RISTULVA_NOTES 1361u
 
-/* Lists the notes on the first message of the octets: each attribute that is discarded, or for which the UPDATE is treated as a withdrawal,
- * in the order of their offsets, the one that is cut off, and then what is missing. They stand at the beginning of `notes`, a list with
- * room for `room` of them, whose rest is unchanged. `count` is how many there are: at most RISTULVA_NOTES, and 0 but for UPDATEs that are
- * accepted or treated as a withdrawal. The message is judged once, however many notes it has.
+/* Lists the notes on the first message of the octets: each attribute that is discarded, or for which the UPDATE is treated as a withdrawal, in the
+ * order of their offsets, the one that is cut off, and then what is missing. They are written to the beginning of `notes`, a list with room for
+ * `room` of them, whose rest is unchanged. `count` is their number: at most RISTULVA_NOTES, and 0 but for UPDATEs that are accepted or treated as a
+ * withdrawal. The message is judged once, however many notes it has.
  *
  * RISTULVA_INCOMPLETE: nothing is written. RISTULVA_ROOM: `count` is written, and the first `room` notes. */
 ristulva_status ristulva_notes(const ristulva_context *context, const uint8_t *octets, size_t len, ristulva_note_found *notes, size_t room,
@@ -297,7 +296,7 @@ ristulva_status ristulva_notes(const ristulva_context *context, const uint8_t *o
 
 /* ---- the fields of a message ---- */
 
-/* What a field is. A prefix's kind says its family and where it stands. */
+/* What a field is. A prefix's kind says its family and its field. */
 #define RISTULVA_FIELD_MARKER 1u             /* the Marker: sixteen octets (RFC 4271, section 4.1) */
 #define RISTULVA_FIELD_MESSAGE_LENGTH 2u     /* the Length of the message: two octets */
 #define RISTULVA_FIELD_MESSAGE_TYPE 3u       /* the Type of the message: one octet */
@@ -322,7 +321,7 @@ ristulva_status ristulva_notes(const ristulva_context *context, const uint8_t *o
 #define RISTULVA_FIELD_ATTRIBUTE_LENGTH 22u  /* the length of a path attribute: one octet, or two where the Extended Length bit is set */
 #define RISTULVA_FIELD_ORIGIN 23u            /* the value of ORIGIN: one octet */
 #define RISTULVA_FIELD_SEGMENT_TYPE 24u      /* the type of a path's segment: one octet */
-#define RISTULVA_FIELD_SEGMENT_COUNT 25u     /* how many AS numbers a path's segment has: one octet */
+#define RISTULVA_FIELD_SEGMENT_COUNT 25u     /* the number of AS numbers in a path's segment: one octet */
 #define RISTULVA_FIELD_ADDRESS 26u           /* an IPv4 address, of NEXT_HOP or an aggregator: four octets */
 #define RISTULVA_FIELD_MED 27u               /* the value of MULTI_EXIT_DISC: four octets */
 #define RISTULVA_FIELD_LOCAL_PREF 28u        /* the value of LOCAL_PREF: four octets */
@@ -341,13 +340,13 @@ ristulva_status ristulva_notes(const ristulva_context *context, const uint8_t *o
 #define RISTULVA_FIELD_ERROR_CODE 41u        /* a NOTIFICATION's error code: one octet (RFC 4271, section 4.5) */
 #define RISTULVA_FIELD_ERROR_SUBCODE 42u     /* a NOTIFICATION's error subcode: one octet */
 #define RISTULVA_FIELD_DATA 43u              /* a NOTIFICATION's data */
-#define RISTULVA_FIELD_UNREAD 44u            /* what can't be read as what ought to stand there, up to the end of what encloses it */
+#define RISTULVA_FIELD_UNREAD 44u            /* octets that can't be read as what should be there, up to the end of what encloses them */
 
-/* A field: octets of a message that have one meaning together. Each octet stands in one of them, whatever comes. */
+/* A field: octets of a message with one meaning. Each octet is in exactly one of them, whatever the message is. */
 typedef struct {
     uint16_t at;    /* its offset in the message */
-    uint16_t len;   /* how many octets it has: at least one */
-    uint16_t group; /* where the attribute, optional parameter or capability begins that it belongs to; 0 for none */
+    uint16_t len;   /* its length: at least one */
+    uint16_t group; /* the offset of the attribute, optional parameter or capability that it belongs to; 0 for none */
     uint8_t kind;   /* RISTULVA_FIELD_MARKER to RISTULVA_FIELD_UNREAD */
     uint8_t type;   /* the type or code of that; 0 for none, and for an attribute that ends before its type */
 } ristulva_field;
@@ -355,55 +354,57 @@ typedef struct {
 /* The most fields of a message. */
 #define RISTULVA_FIELDS 4096u
 
-/* Lists all fields of the first message of the octets, in their order: joined they are the message. Of a header with a fault they are its 19 octets. They
- * stand at the beginning of `fields`, a list with room for `room` of them, whose rest is unchanged; `written` is how many they are. As much room as the
- * message has octets is always enough. Where the message is accepted without a note no field is RISTULVA_FIELD_UNREAD.
+/* Lists all fields of the first message of the octets, in their order: concatenated they are the message. Of a header with a fault they are its 19
+ * octets. They are written to the beginning of `fields`, a list with room for `room` of them, whose rest is unchanged; `written` is their number.
+ * Room for as many fields as the message has octets is always enough. Where the message is accepted without a note no field is
+ * RISTULVA_FIELD_UNREAD.
  *
  * RISTULVA_INCOMPLETE; RISTULVA_ROOM, there are more than `room`: nothing is written. */
 ristulva_status ristulva_fields(const ristulva_context *context, const uint8_t *octets, size_t len, ristulva_field *fields, size_t room,
                                 size_t *written);
 
-/* Tells for which octets the first message is RISTULVA_RESET: an octet of the Marker, or a field of the header; an OPEN's field, parameter or capability;
- * an UPDATE's attribute, the first bad prefix of a field, or the length that leaves no room. Of octets that aren't RISTULVA_RESET, `out->len` is 0.
+/* Reports the octets for which the first message is RISTULVA_RESET: an octet of the Marker, or a field of the header; an OPEN's field, parameter or
+ * capability; an UPDATE's attribute, the first bad prefix of a field, or the length that leaves no room. Of octets that aren't RISTULVA_RESET,
+ * `out->len` is 0.
  *
  * RISTULVA_INCOMPLETE: nothing is written. */
 ristulva_status ristulva_fault(const ristulva_context *context, const uint8_t *octets, size_t len, ristulva_span *out);
 
-/* Tells which octets of the first message a note on it is about, that ristulva_notes gives: the attribute, which where it is cut off goes on to the end of
- * the attributes. Of one that is missing, `out->len` is 0.
+/* Reports which octets of the first message a note of ristulva_notes on it is about: the attribute, which extends to the end of the attributes
+ * where it is cut off. For one that is missing, `out->len` is 0.
  *
  * RISTULVA_INCOMPLETE: nothing is written. */
 ristulva_status ristulva_note_span(const uint8_t *octets, size_t len, const ristulva_note_found *note, ristulva_span *out);
 
 /* Writes the section of an RFC by which the first message is RISTULVA_RESET, as `bgp explain` prints it ("RFC 7606, section 7.11"; "own rule" where
- * no RFC has it so), to the beginning of `text`, which has room for `room` octets: at most RISTULVA_SECTION. It isn't terminated by NUL; the rest of the
- * buffer is unchanged. `written` is how many octets it has: 0 where the message isn't RISTULVA_RESET.
+ * no RFC has the rule), to the beginning of `text`, which has room for `room` octets: at most RISTULVA_SECTION. It isn't terminated by NUL; the
+ * rest of the buffer is unchanged. `written` is its length: 0 where the message isn't RISTULVA_RESET.
  *
- * RISTULVA_INCOMPLETE: nothing is written. RISTULVA_ROOM: `written` is, and says how much room is needed. */
+ * RISTULVA_INCOMPLETE: nothing is written. RISTULVA_ROOM: `written` is, with the room that is needed. */
 ristulva_status ristulva_fault_section(const ristulva_context *context, const uint8_t *octets, size_t len, char *text, size_t room,
                                        size_t *written);
 
-/* Writes the section of an RFC by which a note that ristulva_notes gives is called for, in the same way.
+/* Writes the section of an RFC that requires a note of ristulva_notes, in the same way.
  *
- * RISTULVA_RANGE, the note has none of the reasons above: nothing is written. RISTULVA_ROOM: `written` is, and says how much room is needed. */
+ * RISTULVA_RANGE, the note has none of the reasons above: nothing is written. RISTULVA_ROOM: `written` is, with the room that is needed. */
 ristulva_status ristulva_note_section(const ristulva_note_found *note, char *text, size_t room, size_t *written);
 
-/* The most octets of such a section. */
+/* The greatest length of such a section. */
 #define RISTULVA_SECTION 27u
 
-/* Writes the name of a kind of field, as `bgp explain` prints it, to the beginning of `name`, which has room for `room` octets: at most RISTULVA_FIELD_NAME.
- * It isn't terminated by NUL; the rest of the buffer is unchanged. `written` is how many octets it has.
+/* Writes the name of a kind of field, as `bgp explain` prints it, to the beginning of `name`, which has room for `room` octets: at most
+ * RISTULVA_FIELD_NAME. It isn't terminated by NUL; the rest of the buffer is unchanged. `written` is its length.
  *
- * RISTULVA_RANGE, `kind` is none of the numbers above: nothing is written. RISTULVA_ROOM: `written` is, and says how much room is needed. */
+ * RISTULVA_RANGE, `kind` is none of the numbers above: nothing is written. RISTULVA_ROOM: `written` is, with the room that is needed. */
 ristulva_status ristulva_field_name(uint32_t kind, char *name, size_t room, size_t *written);
 
-/* The most octets of such a name. */
+/* The greatest length of such a name. */
 #define RISTULVA_FIELD_NAME 38u
 
 /* ---- the facts of an UPDATE (RFC 4271, section 5) ----
  *
- * What everybody asks of an UPDATE, of the attributes that are kept alone: neither what is discarded nor what stands in an UPDATE that is treated as
- * a withdrawal. Each flag (`has_` ..) is 1 where it is so, else 0; what it says isn't there is 0.
+ * Common attributes of an UPDATE, only of those that are kept: neither what is discarded nor what is in an UPDATE that is treated as a withdrawal.
+ * Each flag (`has_` ..) is 1 where it is so, else 0; a value whose flag is 0 is 0.
  */
 
 /* The values of ORIGIN. */
@@ -413,21 +414,21 @@ ristulva_status ristulva_field_name(uint32_t kind, char *name, size_t room, size
 
 typedef struct {
     uint8_t next_hop[4];     /* NEXT_HOP, an IPv4 address */
-    uint8_t mp_next_hop[16]; /* the next hop of MP_REACH_NLRI: an IPv4 address with zeros behind it, or a global IPv6 address */
-    uint8_t link_local[16];  /* the link-local address behind that one (RFC 2545, section 3) */
+    uint8_t mp_next_hop[16]; /* the next hop of MP_REACH_NLRI: an IPv4 address with zeros after it, or a global IPv6 address */
+    uint8_t link_local[16];  /* the link-local address after that one (RFC 2545, section 3) */
     uint16_t mp_afi;         /* the family of MP_REACH_NLRI: 1 for IPv4, 2 for IPv6; 0 where there is no MP_REACH_NLRI */
     uint8_t has_next_hop;
     uint8_t has_link_local;
 } ristulva_next_hops;
 
 typedef struct {
-    /* Where values lie in the octets, for the cursors below: of no octets, at 0, where the attribute is missing or discarded. */
+    /* The spans of values in the octets, for the cursors below: empty, at 0, where the attribute is missing or discarded. */
     ristulva_span as_path;           /* AS_PATH: ristulva_next_segment, `wide` as the context's `as4` */
     ristulva_span as4_path;          /* AS4_PATH: ristulva_next_segment, `wide` and `confederations` 1 */
     ristulva_span communities;       /* COMMUNITIES: ristulva_next_number, of four octets */
     ristulva_span large_communities; /* LARGE_COMMUNITY: ristulva_next_large_community */
-    /* The AS that the route came from: the last number of the path that AS_PATH and AS4_PATH give together, as ristulva_reconcile writes it
-     * (RFC 6793, section 4.2.3). 0, and no flag, where that path is empty or ends in a set (RFC 6811, section 2). */
+    /* The origin AS of the route: the last number of the path that AS_PATH and AS4_PATH give together, as ristulva_reconcile writes it (RFC 6793,
+     * section 4.2.3). 0, and no flag, where that path is empty or ends in a set (RFC 6811, section 2). */
     uint32_t origin_as;
     uint8_t has_as_path;
     uint8_t has_as4_path;
@@ -443,7 +444,7 @@ typedef struct {
     uint32_t local_pref;           /* LOCAL_PREF */
     uint32_t aggregator_as;        /* the aggregator that AGGREGATOR and AS4_AGGREGATOR give together (RFC 6793, section 4.2.3) */
     uint8_t aggregator_address[4];
-    uint32_t unrecognised;         /* how many attributes of types that aren't recognised */
+    uint32_t unrecognised;         /* the number of attributes of types that aren't recognised */
     uint8_t origin;                /* ORIGIN: RISTULVA_ORIGIN_IGP to RISTULVA_ORIGIN_INCOMPLETE */
     uint8_t has_origin;
     uint8_t has_med;
@@ -452,98 +453,98 @@ typedef struct {
     uint8_t atomic_aggregate;      /* whether there is an ATOMIC_AGGREGATE */
 } ristulva_update_facts;
 
-/* Tells the facts of the first message of the octets, an UPDATE, in the context of its session; octets behind it are ignored. It allocates nothing.
+/* Reports the facts of the first message of the octets, an UPDATE, in the context of its session; octets after it are ignored. It allocates
+ * nothing.
  *
- * RISTULVA_OK exactly where ristulva_judge tells RISTULVA_UPDATE. RISTULVA_INCOMPLETE; RISTULVA_REFUSED, a header with a fault, another message, or
- * an UPDATE that isn't accepted: nothing is written. */
+ * RISTULVA_OK exactly where ristulva_judge reports RISTULVA_UPDATE. RISTULVA_INCOMPLETE; RISTULVA_REFUSED, a header with a fault, another message,
+ * or an UPDATE that isn't accepted: nothing is written. */
 ristulva_status ristulva_facts(const ristulva_context *context, const uint8_t *octets, size_t len, ristulva_update_facts *out);
 
 /* ---- text ---- */
 
-/* Writes the lines that `bgp show` prints of the first message of the octets, or of a header with a fault, to the beginning of `text`, which
- * has room for `room` octets. They aren't terminated by NUL; the rest of the buffer is unchanged. `place` is the offset in the stream that
- * the first line tells. `written` is how many octets the lines have. It allocates.
+/* Writes the lines that `bgp show` prints of the first message of the octets, or of a header with a fault, to the beginning of `text`, which has
+ * room for `room` octets. They aren't terminated by NUL; the rest of the buffer is unchanged. `place` is the offset in the stream that the first
+ * line prints. `written` is the length of the lines. It allocates.
  *
- * RISTULVA_INCOMPLETE; RISTULVA_MEMORY, never of an incomplete message: nothing is written. RISTULVA_ROOM: `written` is, and says how much
- * room is needed. */
+ * RISTULVA_INCOMPLETE; RISTULVA_MEMORY, never for an incomplete message: nothing is written. RISTULVA_ROOM: `written` is, with the room that is
+ * needed. */
 ristulva_status ristulva_text(const ristulva_context *context, uint64_t place, const uint8_t *octets, size_t len, char *text, size_t room,
                               size_t *written);
 
 /* ---- sending (RFC 4271, section 4.3) ---- */
 
-/* The most octets of a message, and of the body of one. */
+/* The greatest length of a message, and of its body. */
 #define RISTULVA_MESSAGE 4096u
 #define RISTULVA_BODY 4077u
 
-/* The most octets of the messages that ristulva_clean writes for one: three of them. */
+/* The greatest length of the messages that ristulva_clean writes for one: three of them. */
 #define RISTULVA_PARTS 12288u
 
-/* Writes the message of an UPDATE in its one written form to the beginning of `message`, which has room for `room` octets; the rest of the
- * buffer is unchanged. `body` is the body of that UPDATE in any valid spelling, without the header: its attributes may stand in any order,
- * with lengths of one octet or of two. It is judged as if it had been received in this context. `written` is how many octets the message
- * has: never more than RISTULVA_MESSAGE. It allocates.
+/* Writes the message of an UPDATE in its one written form to the beginning of `message`, which has room for `room` octets; the rest of the buffer
+ * is unchanged. `body` is the body of that UPDATE in any valid form, without the header: its attributes may be in any order, with lengths of one
+ * octet or of two. It is judged as if it had been received in this context. `written` is the length of the message: never more than
+ * RISTULVA_MESSAGE. It allocates.
  *
- * RISTULVA_RANGE, the body has more than RISTULVA_BODY octets; RISTULVA_REFUSED, it isn't accepted, or some of it is discarded;
- * RISTULVA_MEMORY, only where it is accepted whole: nothing is written. RISTULVA_ROOM: `written` is. What is accepted whole is always
- * written. */
+ * RISTULVA_RANGE, the body has more than RISTULVA_BODY octets; RISTULVA_REFUSED, it isn't accepted, or some of it is discarded; RISTULVA_MEMORY,
+ * only where it is accepted whole: nothing is written. RISTULVA_ROOM: `written` is. What is accepted whole is always written. */
 ristulva_status ristulva_encode(const ristulva_context *context, const uint8_t *body, size_t len, uint8_t *message, size_t room,
                                 size_t *written);
 
-/* The same for a speaker with AS numbers of two octets (RFC 6793, section 4.2.2): 23456 stands for each number that needs four, and AS4_PATH
- * and AS4_AGGREGATOR beside AS_PATH and AGGREGATOR where one does. `body` has AS numbers of four octets, whatever `as4` of the context says.
+/* The same for a speaker with 2-octet AS numbers (RFC 6793, section 4.2.2): 23456 replaces each number that needs four octets, and AS4_PATH and
+ * AS4_AGGREGATOR are added to AS_PATH and AGGREGATOR where one does. `body` has 4-octet AS numbers, whatever `as4` of the context says.
  * RISTULVA_UNWRITABLE, and nothing is written: with these the message would have more than RISTULVA_MESSAGE octets. */
 ristulva_status ristulva_narrow(const ristulva_context *context, const uint8_t *body, size_t len, uint8_t *message, size_t room,
                                 size_t *written);
 
-/* The other way round (RFC 6793, section 4.2.3): the UPDATE of a session with AS numbers of two octets as speakers with four see it. The
- * path and the aggregator that AS4_PATH and AS4_AGGREGATOR give back replace all four. `body` has AS numbers of two octets,
- * whatever `as4` of the context says, and the message has them of four. RISTULVA_UNWRITABLE, and nothing is written: the message can't be
- * written, or would have more than RISTULVA_MESSAGE octets. */
+/* The reverse (RFC 6793, section 4.2.3): the UPDATE of a session with 2-octet AS numbers as 4-octet speakers see it. The path and the aggregator
+ * that AS4_PATH and AS4_AGGREGATOR give replace all four attributes. `body` has 2-octet AS numbers, whatever `as4` of the context says, and the
+ * message has 4-octet ones. RISTULVA_UNWRITABLE, and nothing is written: the message can't be written, or would have more than RISTULVA_MESSAGE
+ * octets. */
 ristulva_status ristulva_reconcile(const ristulva_context *context, const uint8_t *body, size_t len, uint8_t *message, size_t room,
                                    size_t *written);
 
 /* ---- cleaning (RFC 7606) ---- */
 
-#define RISTULVA_HANDED_ON 0u      /* the message is handed on, or what stands for it is */
+#define RISTULVA_HANDED_ON 0u      /* the message is passed on, or its replacement is */
 #define RISTULVA_ENDS_RESET 1u     /* the cleaned stream ends before it: the session ends, by a NOTIFICATION to the peer */
 #define RISTULVA_ENDS_LATE_OPEN 2u /* it ends before an OPEN that isn't the first message of its stream */
 #define RISTULVA_ENDS_NO_FAMILY 3u /* it ends before an OPEN that offers families, and neither IPv4 nor IPv6 unicast */
 
 typedef struct {
     uint8_t ends;    /* RISTULVA_HANDED_ON to RISTULVA_ENDS_NO_FAMILY */
-    uint8_t verdict; /* the outcome of the message that came, as ristulva_judge tells it: RISTULVA_OPEN to RISTULVA_RESET */
+    uint8_t verdict; /* the outcome of the received message, as by ristulva_judge: RISTULVA_OPEN to RISTULVA_RESET */
     /* RISTULVA_ENDS_RESET: code and subcode of that NOTIFICATION (RFC 4271, section 4.5). Else 0. */
     uint8_t code;
     uint8_t subcode;
-    uint32_t len; /* the octets of the message that came; 0 where its header has a fault */
-    /* What was left out of a message that is handed on. Each is 0 where the stream ends. */
+    uint32_t len; /* the length of the received message; 0 where its header has a fault */
+    /* What was left out of a message that is passed on. Each is 0 where the stream ends. */
     size_t discarded;    /* of an UPDATE that is accepted, attributes that are discarded: as many as ristulva_notes lists */
     size_t left_out;     /* of an UPDATE that is accepted, other attributes, of unrecognised types that are in `types` */
     size_t capabilities; /* of an OPEN, capabilities */
 } ristulva_cleaned;
 
-/* Writes what is handed on of the first message of the octets to the beginning of `message`, which has room for `room` octets; the rest of the
+/* Writes what is passed on of the first message of the octets to the beginning of `message`, which has room for `room` octets; the rest of the
  * buffer is unchanged, and octets after the message are ignored. It is one whole message in its one written form, or up to three of an UPDATE:
- * the routes that are gone, those of NLRI, those of MP_REACH_NLRI (RFC 7606, section 5.1). In the same context each is accepted without a note,
- * and unchanged where it is cleaned again, and none has more octets than the message that came. `written` is how many octets they have together,
- * RISTULVA_PARTS at most; where the stream ends, 0, and of no later message anything is to be handed on. `types` are attribute types, `count` of
- * them in any order: attributes of unrecognised types that are among them are left out. `first` is whether the message is the first one of its
- * stream: 0 for no, any other number for yes.
+ * withdrawn routes, those of NLRI, those of MP_REACH_NLRI (RFC 7606, section 5.1). In the same context each is accepted without a note, and
+ * unchanged where it is cleaned again, and none is longer than the received message. `written` is their total length, RISTULVA_PARTS at most; where
+ * the stream ends, 0, and nothing of any later message is to be passed on. `types` are attribute types, `count` of them in any order: attributes of
+ * unrecognised types that are among them are left out. `first` is whether the message is the first one of its stream: 0 for no, any other number
+ * for yes.
  *
- * An OPEN is handed on with the first capability of each kind for IPv4 unicast, IPv6 unicast and AS numbers of four octets, and no others. An
- * UPDATE that is accepted is handed on without what is discarded or left out, routes of IPv4 in Withdrawn Routes, NLRI and NEXT_HOP wherever they
- * came (RFC 4271, section 4.3); one that is treated as a withdrawal as an UPDATE that withdraws its routes. Where an UPDATE has no routes, a
- * KEEPALIVE is handed on, unless it came as an End-of-RIB (RFC 4724, section 2), which goes on as the one of its family.
+ * An OPEN is passed on with the first capability of each kind for IPv4 unicast, IPv6 unicast and 4-octet AS numbers, and no others. An UPDATE that
+ * is accepted is passed on without what is discarded or left out, IPv4 routes in Withdrawn Routes, NLRI and NEXT_HOP wherever they were (RFC 4271,
+ * section 4.3); one that is treated as a withdrawal as an UPDATE that withdraws its routes. Where an UPDATE has no routes, a KEEPALIVE is passed
+ * on, unless it is an End-of-RIB (RFC 4724, section 2), which is passed on as the one of its family.
  *
- * RISTULVA_INCOMPLETE: nothing is written. RISTULVA_ROOM: `written` is, and says how much room is needed, and so is `out`; `message` isn't. */
+ * RISTULVA_INCOMPLETE: nothing is written. RISTULVA_ROOM: `written` is, with the room that is needed, and so is `out`; `message` isn't. */
 ristulva_status ristulva_clean(const ristulva_context *context, const uint8_t *types, size_t count, uint8_t first, const uint8_t *octets,
                                size_t len, uint8_t *message, size_t room, size_t *written, ristulva_cleaned *out);
 
 /* ---- cursors ----
  *
- * A cursor is a few numbers that a call moves over octets. To begin, set `at` and `end` to a span's first and last offset, and hand in the
- * octets that the span lies in, the same at each call. The call gives what the cursor stands at, and moves it behind that. A cursor that
- * points anywhere else gives other answers, RISTULVA_RANGE where it leaves the octets, and never a read outside of them.
+ * A cursor is a few numbers that a call moves over octets. To begin, set `at` and `end` to a span's first and last offset, and pass the octets that
+ * the span lies in, the same at each call. The call gives what is at the cursor, and moves the cursor after it. A cursor that points anywhere else
+ * gives other answers, RISTULVA_RANGE where it leaves the octets, and never a read outside of them.
  */
 
 typedef struct {
@@ -553,14 +554,14 @@ typedef struct {
 
 /* A path attribute as it lies in octets (RFC 4271, section 4.3). */
 typedef struct {
-    uint32_t at;   /* where its flags stand */
+    uint32_t at;   /* the offset of its flags */
     uint8_t flags; /* 128 optional, 64 transitive, 32 partial, 16 extended length */
     uint8_t kind;  /* the type */
     ristulva_span value;
 } ristulva_attribute;
 
-/* Gives the attributes of a field one after another, discarded or not, up to the end or to one that is cut off: begin at the span `attributes`
- * of a verdict. RISTULVA_END: no whole attribute is left. RISTULVA_RANGE: `at` is above `end`, or `end` above `len`. */
+/* Gives the attributes of a field in sequence, discarded or not, up to the end or to one that is cut off: begin at the span `attributes` of a
+ * verdict. RISTULVA_END: no whole attribute remains. RISTULVA_RANGE: `at` is above `end`, or `end` above `len`. */
 ristulva_status ristulva_next_attribute(const uint8_t *octets, size_t len, ristulva_attributes *cursor, ristulva_attribute *out);
 
 typedef struct {
@@ -572,30 +573,29 @@ typedef struct {
 typedef struct {
     uint16_t afi;
     uint8_t len;      /* the length in bits: at most 32 for IPv4, and 128 for IPv6 */
-    uint8_t addr[16]; /* the address, highest octet first: four octets for IPv4, and zeros behind them. Bits behind the length are 0 */
+    uint8_t addr[16]; /* the address, highest octet first: four octets for IPv4, and zeros after them. Bits after the length are 0 */
 } ristulva_prefix;
 
-/* Gives the prefixes of a field one after another, up to the end or to the first fault: begin at the span `withdrawn` or `nlri` of a
- * verdict with the family 1. RISTULVA_END: no whole prefix is left. RISTULVA_RANGE: `at` is above `end`, `end` above `len`, or `afi`
- * neither 1 nor 2. */
+/* Gives the prefixes of a field in sequence, up to the end or to the first fault: begin at the span `withdrawn` or `nlri` of a verdict with the
+ * family 1. RISTULVA_END: no whole prefix remains. RISTULVA_RANGE: `at` is above `end`, `end` above `len`, or `afi` neither 1 nor 2. */
 ristulva_status ristulva_next_prefix(const uint8_t *octets, size_t len, ristulva_prefixes *cursor, ristulva_prefix *out);
 
-/* Counts the prefixes that are left; the cursor isn't moved. RISTULVA_RANGE, and nothing is written: as ristulva_next_prefix has it. */
+/* Counts the remaining prefixes; the cursor isn't moved. RISTULVA_RANGE, and nothing is written: as for ristulva_next_prefix. */
 ristulva_status ristulva_count_prefixes(const uint8_t *octets, size_t len, const ristulva_prefixes *cursor, size_t *count);
 
-/* Begins a cursor at the prefixes of MP_REACH_NLRI (type 14; RFC 4760, section 3), of which `value` is the value, and tells where the
- * next hop lies: 4 octets for IPv4; 16 for IPv6, or 32 where a link-local address stands behind the global one (RFC 2545).
+/* Begins a cursor at the prefixes of MP_REACH_NLRI (type 14; RFC 4760, section 3), of which `value` is the value, and reports the span of the next
+ * hop: 4 octets for IPv4; 16 for IPv6, or 32 where a link-local address follows the global one (RFC 2545).
  *
- * RISTULVA_RANGE, and nothing is written: the value isn't within the octets, has no room for what stands in front of the prefixes, or isn't
- * of IPv4 or IPv6 unicast. Whether the family is in use, and the next hop of a length that it may have, isn't tested here:
- * both hold where the UPDATE is accepted without a note on this attribute. */
+ * RISTULVA_RANGE, and nothing is written: the value isn't within the octets, has no room for what precedes the prefixes, or isn't of IPv4 or IPv6
+ * unicast. Whether the family is in use, and the next hop of an allowed length, isn't tested here: both hold where the UPDATE is accepted without a
+ * note on this attribute. */
 ristulva_status ristulva_reached(const uint8_t *octets, size_t len, const ristulva_span *value, ristulva_span *next_hop,
                                  ristulva_prefixes *cursor);
 
 /* The same for MP_UNREACH_NLRI (type 15; RFC 4760, section 4), which has no next hop. */
 ristulva_status ristulva_unreached(const uint8_t *octets, size_t len, const ristulva_span *value, ristulva_prefixes *cursor);
 
-/* The routes of an UPDATE that are still to come: four cursors, each with its family. */
+/* The remaining routes of an UPDATE: four cursors, each with its family. */
 typedef struct {
     ristulva_prefixes withdrawn; /* Withdrawn Routes */
     ristulva_prefixes unreached; /* MP_UNREACH_NLRI */
@@ -611,13 +611,13 @@ typedef struct {
     ristulva_prefix prefix;
 } ristulva_route;
 
-/* Begins a cursor at the first route of the first message of the octets, as RFC 7606 has them: those that an UPDATE withdraws, then those that it
- * announces; of one that is treated as a withdrawal all are withdrawn (section 2). They come in the order of the four cursors. Of other messages, and
- * of a header with a fault, there are none. The message is judged once. RISTULVA_INCOMPLETE: nothing is written. */
+/* Begins a cursor at the first route of the first message of the octets, by RFC 7606: those that an UPDATE withdraws, then those that it announces;
+ * of one that is treated as a withdrawal all are withdrawn (section 2). They are in the order of the four cursors. Of other messages, and of a
+ * header with a fault, there are none. The message is judged once. RISTULVA_INCOMPLETE: nothing is written. */
 ristulva_status ristulva_begin_routes(const ristulva_context *context, const uint8_t *octets, size_t len, ristulva_route_cursor *cursor);
 
-/* Gives the routes one after another. RISTULVA_END: none is left. RISTULVA_RANGE: one of the four cursors isn't one of these octets, as
- * ristulva_next_prefix has it. */
+/* Gives the routes in sequence. RISTULVA_END: none remains. RISTULVA_RANGE: one of the four cursors isn't one of these octets, as for
+ * ristulva_next_prefix. */
 ristulva_status ristulva_next_route(const uint8_t *octets, size_t len, ristulva_route_cursor *cursor, ristulva_route *out);
 
 typedef struct {
@@ -633,25 +633,25 @@ typedef struct {
     ristulva_span numbers; /* its AS numbers, one at least */
 } ristulva_segment;
 
-/* Gives the segments of a path one after another, the nearest first: begin at the value of AS_PATH (type 2) or AS4_PATH (type 17).
- * RISTULVA_END: no whole segment is left. RISTULVA_RANGE: `at` is above `end`, or `end` above `len`. */
+/* Gives the segments of a path in sequence, the nearest first: begin at the value of AS_PATH (type 2) or AS4_PATH (type 17). RISTULVA_END: no whole
+ * segment remains. RISTULVA_RANGE: `at` is above `end`, or `end` above `len`. */
 ristulva_status ristulva_next_segment(const uint8_t *octets, size_t len, ristulva_segments *cursor, ristulva_segment *out);
 
 typedef struct {
     uint32_t at;
     uint32_t end;
-    uint8_t width; /* how many octets each number has: 2 or 4 */
+    uint8_t width; /* the length of each number: 2 or 4 */
 } ristulva_numbers;
 
-/* Gives the numbers of a field one after another, highest octet first: begin at the numbers of a segment, with the width that its path
- * has; or, with the width 4, at the value of COMMUNITIES (type 8; RFC 1997). RISTULVA_END: no whole number is left. RISTULVA_RANGE: `at`
- * is above `end`, `end` above `len`, or `width` neither 2 nor 4. */
+/* Gives the numbers of a field in sequence, highest octet first: begin at the numbers of a segment, with the width that its path has; or, with the
+ * width 4, at the value of COMMUNITIES (type 8; RFC 1997). RISTULVA_END: no whole number remains. RISTULVA_RANGE: `at` is above `end`, `end` above
+ * `len`, or `width` neither 2 nor 4. */
 ristulva_status ristulva_next_number(const uint8_t *octets, size_t len, ristulva_numbers *cursor, uint32_t *out);
 
 typedef struct {
-    uint32_t first; /* where the first community begins: the value of the attribute */
-    uint32_t at;    /* where the next one begins */
-    uint32_t end;   /* where the value ends */
+    uint32_t first; /* the offset of the first community: the value of the attribute */
+    uint32_t at;    /* the offset of the next one */
+    uint32_t end;   /* the end of the value */
 } ristulva_large_communities;
 
 /* A large community (RFC 8092, section 3): its Global Administrator, and the two parts of its Local Data. */
@@ -659,43 +659,43 @@ typedef struct {
     uint32_t numbers[3];
 } ristulva_large_community;
 
-/* Gives the large communities of LARGE_COMMUNITY (type 32; RFC 8092) one after another, each at its first place alone, as `bgp show` prints
- * them: one that stood before is passed (section 3), for which a call looks back over all from `first` on. Begin at the attribute's value,
- * with `first` and `at` the same. RISTULVA_END: none is left that is whole and new. RISTULVA_RANGE: `first` is above `at`, `at` above
- * `end`, `end` above `len`, or `at` not a multiple of twelve octets behind `first`. */
+/* Gives the large communities of LARGE_COMMUNITY (type 32; RFC 8092) in sequence, each only where it occurs first, as `bgp show` prints them: a
+ * repeated one is skipped (section 3), for which a call looks back over all from `first` on. Begin at the attribute's value, with `first` and `at`
+ * the same. RISTULVA_END: none remains that is whole and new. RISTULVA_RANGE: `first` is above `at`, `at` above `end`, `end` above `len`, or `at`
+ * not a multiple of twelve octets after `first`. */
 ristulva_status ristulva_next_large_community(const uint8_t *octets, size_t len, ristulva_large_communities *cursor, ristulva_large_community *out);
 
-/* ---- batches: messages that stand one behind another, in rows ----
+/* ---- batches: messages in sequence, in rows ----
  *
- * Each of these calls takes messages from the first octet on, as many whole ones as have room in `rows`, which holds `room` rows: each is judged once,
- * in the context of its session, and its rows are written behind those of the messages in front of it. `written` is how many rows that makes, and
- * `taken` how many octets the messages have: the caller goes on from there. Messages without rows, as a KEEPALIVE, are taken too. The rest of `rows`
- * stays as it is. They allocate nothing.
+ * Each of these calls processes messages from the first octet on, as many whole ones as fit in `rows`, which holds `room` rows: each is judged
+ * once, in the context of its session, and its rows are written after those of the previous messages. `written` is the number of rows, and `taken`
+ * the total length of the messages: the caller continues from there. Messages without rows, as a KEEPALIVE, are processed too. The rest of `rows`
+ * is unchanged. They allocate nothing.
  *
- * RISTULVA_OK: all octets are taken; or `taken` is below `len`, and the next message has more rows than there is room for.
- * RISTULVA_INCOMPLETE: what stands at `taken` is an incomplete message. RISTULVA_REFUSED: what stands at `taken` is a message, or a header with a
- * fault, that ends the session (ristulva_judge tells why). In these cases too what was taken is written. RISTULVA_ROOM: `room` is below
- * RISTULVA_BATCH, and nothing is written, `written` and `taken` neither.
+ * RISTULVA_OK: all octets are processed; or `taken` is below `len`, and the next message has more rows than there is room for. RISTULVA_INCOMPLETE:
+ * an incomplete message is at `taken`. RISTULVA_REFUSED: a message, or a header with a fault, that ends the session is at `taken` (ristulva_judge
+ * reports why). In these cases too what was processed is written. RISTULVA_ROOM: `room` is below RISTULVA_BATCH, and nothing is written, `written`
+ * and `taken` neither.
  */
 
 /* The least room of these calls: no message has more rows. */
 #define RISTULVA_BATCH 4073u
 
-/* Where octets lie in a message: `len` of them from the offset `at` on. */
+/* A span in a message: `len` octets from the offset `at` on. */
 typedef struct {
     uint16_t at;
     uint16_t len;
 } ristulva_place;
 
 typedef struct {
-    uint64_t message;                 /* where its message begins, in the octets that were handed in */
-    uint32_t origin_as;               /* the AS that it came from, as ristulva_facts has it; 0 without `has_origin_as` */
-    ristulva_place as_path;           /* where the values of attributes that are kept lie in its message; of no octets, at 0, where there is none */
+    uint64_t message;                 /* the offset of its message in the octets given */
+    uint32_t origin_as;               /* its origin AS, as by ristulva_facts; 0 without `has_origin_as` */
+    ristulva_place as_path;           /* the values of attributes that are kept, in its message; empty, at 0, where there is none */
     ristulva_place as4_path;
     ristulva_place communities;
     ristulva_place large_communities;
-    ristulva_prefix prefix;           /* four octets of an address of IPv4 have zeros behind them */
-    uint8_t announced;                /* 1 where it is announced; 0 where it is withdrawn, and of attributes nothing is told */
+    ristulva_prefix prefix;           /* the four octets of an IPv4 address have zeros after them */
+    uint8_t announced;                /* 1 where it is announced; 0 where it is withdrawn, and nothing is reported of attributes */
     uint8_t verdict;                  /* of its message: RISTULVA_UPDATE or RISTULVA_WITHDRAW */
     uint8_t has_origin_as;            /* 1 where there is an `origin_as`, else 0 */
     uint8_t reserved[5];              /* zeros */
@@ -706,9 +706,9 @@ ristulva_status ristulva_routes(const ristulva_context *context, const uint8_t *
                                 size_t *written, size_t *taken);
 
 typedef struct {
-    uint64_t message; /* where its message begins */
+    uint64_t message; /* the offset of its message */
     uint32_t number;  /* an AS number */
-    uint16_t segment; /* the place of its segment in the path: 0 for the first */
+    uint16_t segment; /* the index of its segment in the path: 0 for the first */
     uint8_t set;      /* 1 of an AS_SET, 0 of an AS_SEQUENCE */
     uint8_t reserved; /* 0 */
 } ristulva_number_row;
@@ -719,7 +719,7 @@ ristulva_status ristulva_path_numbers(const ristulva_context *context, const uin
                                       size_t *written, size_t *taken);
 
 typedef struct {
-    uint64_t message;  /* where its message begins */
+    uint64_t message;  /* the offset of its message */
     uint32_t value;    /* a community (RFC 1997) */
     uint32_t reserved; /* 0 */
 } ristulva_community_row;
@@ -729,7 +729,7 @@ ristulva_status ristulva_communities_of(const ristulva_context *context, const u
                                         size_t room, size_t *written, size_t *taken);
 
 typedef struct {
-    uint64_t message;  /* where its message begins */
+    uint64_t message;  /* the offset of its message */
     uint32_t global;   /* the Global Administrator (RFC 8092, section 3) */
     uint32_t local1;   /* the two parts of Local Data */
     uint32_t local2;
@@ -742,30 +742,29 @@ ristulva_status ristulva_large_communities_of(const ristulva_context *context, c
 
 /* ---- what an OPEN says (RFC 4271, section 4.2; RFC 5492) ---- */
 
-/* A cursor over capabilities, which stand in parameters, none, one or many in each. ristulva_open gives one to begin with. */
+/* A cursor over capabilities, which are in parameters, none, one or many in each. ristulva_open gives one to begin with. */
 typedef struct {
-    uint32_t at;   /* where the next one begins, in the parameter that was begun */
-    uint32_t stop; /* where that parameter ends, and the next one begins */
-    uint32_t end;  /* where the parameters end */
+    uint32_t at;   /* the offset of the next one, in the parameter that was begun */
+    uint32_t stop; /* the end of that parameter, where the next one begins */
+    uint32_t end;  /* the end of the parameters */
 } ristulva_capabilities;
 
 typedef struct {
-    /* The AS number of its speaker: that of the first capability for AS numbers of four octets (code 65), else `as_field` (RFC 6793,
-     * section 4.1). */
+    /* The AS number of its speaker: that of the first capability for 4-octet AS numbers (code 65), else `as_field` (RFC 6793, section 4.1). */
     uint32_t as_number;
     uint16_t as_field; /* My Autonomous System: 23456 for an AS number that needs four octets */
     uint16_t hold;     /* Hold Time in seconds: 0 for none, and never 1 or 2 */
     uint8_t id[4];     /* BGP Identifier, highest octet first: never zero (RFC 6286, section 2.1) */
-    uint8_t as4;       /* whether it offers AS numbers of four octets (RFC 6793): 1 or 0 */
+    uint8_t as4;       /* whether it offers 4-octet AS numbers (RFC 6793): 1 or 0 */
     uint8_t ip4;       /* whether it offers IPv4 unicast (RFC 4760, section 8): 1 or 0 */
     uint8_t ip6;       /* whether it offers IPv6 unicast: 1 or 0 */
-    ristulva_capabilities capabilities; /* a cursor at the first of its capabilities, over the octets that were handed in */
+    ristulva_capabilities capabilities; /* a cursor at the first of its capabilities, over the octets given */
 } ristulva_open_fields;
 
-/* Tells what the first message of the octets says, an OPEN; octets behind it are ignored. It allocates nothing.
+/* Reports what the first message of the octets, an OPEN, says; octets after it are ignored. It allocates nothing.
  *
- * RISTULVA_OK exactly where ristulva_judge tells RISTULVA_OPEN, in any context. RISTULVA_INCOMPLETE; RISTULVA_REFUSED, a header with a
- * fault, another message, or an OPEN with a fault, as one in the extended form of RFC 9072: nothing is written. */
+ * RISTULVA_OK exactly where ristulva_judge reports RISTULVA_OPEN, in any context. RISTULVA_INCOMPLETE; RISTULVA_REFUSED, a header with a fault,
+ * another message, or an OPEN with a fault, as one in the extended form of RFC 9072: nothing is written. */
 ristulva_status ristulva_open(const uint8_t *octets, size_t len, ristulva_open_fields *out);
 
 /* A capability as it lies in octets (RFC 5492, section 4). */
@@ -774,28 +773,28 @@ typedef struct {
     ristulva_span value; /* at most 255 octets; of the codes 1 (RFC 4760, section 8) and 65 (RFC 6793, section 3) four */
 } ristulva_capability;
 
-/* Gives capabilities one after another, however they are grouped into parameters. The code and the length of each stand in the two octets
- * in front of its value. RISTULVA_END: none is left. RISTULVA_RANGE: `at` is above `stop`, `stop` above `end`, or `end` above `len`. */
+/* Gives capabilities in sequence, however they are grouped into parameters. The code and the length of each are the two octets before its value.
+ * RISTULVA_END: none remains. RISTULVA_RANGE: `at` is above `stop`, `stop` above `end`, or `end` above `len`. */
 ristulva_status ristulva_next_capability(const uint8_t *octets, size_t len, ristulva_capabilities *cursor, ristulva_capability *out);
 
-/* Tells what two speakers agree on, of whose OPENs the octets are; octets behind the OPENs are ignored. That is the context of their session, and
- * its Hold Time in seconds, 0 for none, as each speaker finds them from its own OPEN and the other's, and as `bgp show --opens` does. Neither OPEN is
- * refused for what it says: a caller refuses a direction for which both agree on path identifiers (capability 69; RFC 7911), since no call reads its
- * routes. It allocates nothing. Each field of the context is 0 or 1.
+/* Reports what two speakers agree on, given the octets of their OPENs; octets after the OPENs are ignored. That is the context of their session,
+ * and its Hold Time in seconds, 0 for none, as each speaker finds them from its own OPEN and the other's, and as `bgp show --opens` does. Neither
+ * OPEN is refused for what it says: a caller refuses a direction for which both agree on path identifiers (capability 69; RFC 7911), since no call
+ * reads its routes. It allocates nothing. Each field of the context is 0 or 1.
  *
- * RISTULVA_INCOMPLETE, RISTULVA_REFUSED: as ristulva_open answers of the first of the two that isn't accepted. Nothing is written. */
+ * RISTULVA_INCOMPLETE, RISTULVA_REFUSED: as by ristulva_open, for the first of the two that isn't accepted. Nothing is written. */
 ristulva_status ristulva_agree(const uint8_t *ours, size_t ours_len, const uint8_t *theirs, size_t theirs_len, ristulva_context *context,
                                uint16_t *hold);
 
 /* ---- a stream in pieces (RFC 4271, section 4.1) ----
  *
- * A decoder is for a host that keeps no buffer of what it has read: it takes the octets of a stream, however TCP cuts it, and holds those
- * of an incomplete message. The outcomes don't depend on where the stream is cut: they are what ristulva_judge tells of one message
- * after another. Behind a RISTULVA_RESET it reads nothing.
+ * A decoder is for a host that keeps no buffer of what it has read: it consumes the octets of a stream, however TCP cuts it, and holds those of an
+ * incomplete message. The outcomes don't depend on where the stream is cut: they are what ristulva_judge reports of one message after another.
+ * After a RISTULVA_RESET it reads nothing.
  *
- * A handle is the caller's. It begins as {NULL}, gets a decoder by ristulva_decoder_new, and loses it by ristulva_decoder_free; the decoder
- * is memory of the library's, some 4.2 KB. A handle isn't copied, and its pointer isn't changed. It may go from thread to thread, but no two
- * calls are handed the same handle at one time; different decoders share nothing.
+ * A handle is the caller's. It begins as {NULL}, gets a decoder by ristulva_decoder_new, and loses it by ristulva_decoder_free; the decoder is
+ * memory of the library's, some 4.2 KB. A handle isn't copied, and its pointer isn't changed. It may move between threads, but no two calls are
+ * given the same handle at one time; different decoders share nothing.
  */
 
 struct ristulva_decoder_body;
@@ -812,37 +811,36 @@ ristulva_status ristulva_decoder_new(const ristulva_context *context, ristulva_d
 /* Frees a decoder, and what it holds: the handle has none then. RISTULVA_NO_DECODER. */
 ristulva_status ristulva_decoder_free(ristulva_decoder *decoder);
 
-/* Takes octets of a piece until a message is whole, with those that the decoder holds in front of them, and tells its outcome, as ristulva_judge
- * does. `taken` is how many of the `len` octets were taken: what stands behind them is handed in again, as the next piece or a part of it, until
- * RISTULVA_INCOMPLETE.
+/* Consumes octets of a piece until a message is whole, after those that the decoder holds, and reports its outcome, as ristulva_judge does. `taken`
+ * is how many of the `len` octets were consumed: pass the octets after them again, as the next piece or a part of it, until RISTULVA_INCOMPLETE.
  *
- * RISTULVA_OK: the octets of the message, `out->len` of them, stand at the beginning of `message`, which has room for `message_room` octets,
- * RISTULVA_MESSAGE at least; the rest of the buffer is unchanged. Offsets, notes and cursors are those of these octets. Of a header with a
- * fault its 19 octets stand there, and `out->len` is 0. The Data field of the NOTIFICATION that came or that is to be sent stands at the
+ * RISTULVA_OK: the octets of the message, `out->len` of them, are written to the beginning of `message`, which has room for `message_room` octets,
+ * RISTULVA_MESSAGE at least; the rest of the buffer is unchanged. Offsets, notes and cursors are those of these octets. For a header with a fault
+ * its 19 octets are written, and `out->len` is 0. The Data field of the NOTIFICATION that was received or that is to be sent is written to the
  * beginning of `data`, which has room for `room` octets, RISTULVA_DATA at least. It doesn't allocate.
  *
- * RISTULVA_INCOMPLETE: all octets of the piece were taken, and the message needs more; `taken` is written, and nothing else.
- * RISTULVA_ROOM, `message_room` is below RISTULVA_MESSAGE or `room` below RISTULVA_DATA; RISTULVA_NO_DECODER; RISTULVA_STATE, a RISTULVA_RESET
- * was told: nothing has changed, and nothing is taken or written. */
+ * RISTULVA_INCOMPLETE: all octets of the piece were consumed, and the message needs more; `taken` is written, and nothing else. RISTULVA_ROOM,
+ * `message_room` is below RISTULVA_MESSAGE or `room` below RISTULVA_DATA; RISTULVA_NO_DECODER; RISTULVA_STATE, a RISTULVA_RESET was reported:
+ * nothing has changed, and nothing is consumed or written. */
 ristulva_status ristulva_decoder_pull(ristulva_decoder *decoder, const uint8_t *octets, size_t len, uint8_t *message, size_t message_room,
                                       uint8_t *data, size_t room, size_t *taken, ristulva_verdict *out);
 
-/* Tells how many octets of an incomplete message the decoder holds, at most RISTULVA_MESSAGE. Where a stream ends, 0 says that it ends
- * behind a message, or behind a RISTULVA_RESET. RISTULVA_NO_DECODER. */
+/* Reports the length of the incomplete message that the decoder holds, at most RISTULVA_MESSAGE. Where a stream ends, 0 means that it ends after a
+ * message, or after a RISTULVA_RESET. RISTULVA_NO_DECODER. */
 ristulva_status ristulva_decoder_held(ristulva_decoder *decoder, size_t *held);
 
 /* ---- sessions (RFC 4271, section 8) ----
  *
- * A session is one speaker's end of one connection. It does no IO and knows no time: its host opens and closes the connection, keeps the
- * timers, tells the session what happens and lets it hear the octets that come, and does what it answers.
+ * A session is one speaker's end of one connection. It does no IO and knows no time: its host opens and closes the connection, keeps the timers,
+ * passes events and received octets to the session, and does what it answers.
  *
- * A handle is the caller's. It begins as {NULL}, gets a session by ristulva_session_new, and loses it by ristulva_session_free; the
- * session is memory of the library's, some 4.5 KB. A handle isn't copied, and its pointer isn't changed. It may go from thread to thread,
- * but no two calls are handed the same handle at one time; different sessions share nothing.
+ * A handle is the caller's. It begins as {NULL}, gets a session by ristulva_session_new, and loses it by ristulva_session_free; the session is
+ * memory of the library's, some 4.5 KB. A handle isn't copied, and its pointer isn't changed. It may move between threads, but no two calls are
+ * given the same handle at one time; different sessions share nothing.
  *
- * Each call answers RISTULVA_NO_SESSION where the handle has none; RISTULVA_ROOM (a buffer below RISTULVA_MESSAGE) and RISTULVA_RANGE (the
- * number of an event) are checked before that. A status other than RISTULVA_OK says that nothing has changed, and, but where it is said below,
- * that nothing was written.
+ * Each call answers RISTULVA_NO_SESSION where the handle has none; RISTULVA_ROOM (a buffer below RISTULVA_MESSAGE) and RISTULVA_RANGE (the number
+ * of an event) are checked before that. A status other than RISTULVA_OK means that nothing has changed, and, but where noted below, that nothing
+ * was written.
  */
 
 struct ristulva_session_body;
@@ -851,13 +849,13 @@ typedef struct {
     struct ristulva_session_body *body; /* NULL where there is no session */
 } ristulva_session;
 
-/* What a speaker is to be set to. */
+/* The settings of a speaker. */
 typedef struct {
     uint32_t local_as; /* its own AS number: not 0; above 65535 only with `as4` (RFC 7607; RFC 6793, section 4.1) */
     uint32_t peer_as;  /* the AS number that the peer has to have: not 0 */
     uint8_t id[4];     /* its BGP Identifier, highest octet first: not 0.0.0.0 (RFC 6286, section 2.1) */
     uint16_t hold;     /* the Hold Time that it proposes, in seconds: 0 for none, else 3 at least (RFC 4271, section 4.2) */
-    uint8_t as4;       /* whether it offers AS numbers of four octets (RFC 6793): 0 for no, and any other number for yes */
+    uint8_t as4;       /* whether it offers 4-octet AS numbers (RFC 6793): 0 for no, and any other number for yes */
     uint8_t ip4;       /* IPv4 unicast (RFC 4760, section 8) */
     uint8_t ip6;       /* IPv6 unicast */
 } ristulva_config;
@@ -879,7 +877,7 @@ ristulva_status ristulva_session_free(ristulva_session *session);
 #define RISTULVA_OPEN_CONFIRM 5u
 #define RISTULVA_ESTABLISHED 6u
 
-/* Tells where a session stands: RISTULVA_IDLE to RISTULVA_ESTABLISHED. */
+/* Reports the state of a session: RISTULVA_IDLE to RISTULVA_ESTABLISHED. */
 ristulva_status ristulva_session_state(ristulva_session *session, uint8_t *state);
 
 /* The timers (RFC 4271, section 10), which are the host's. */
@@ -888,17 +886,17 @@ ristulva_status ristulva_session_state(ristulva_session *session, uint8_t *state
 #define RISTULVA_TIMER_KEEPALIVE 3u
 
 /* What is to be done. */
-#define RISTULVA_DO_NOTHING 0u           /* behind the last thing */
-#define RISTULVA_DO_SEEK 1u              /* seek a connection to the peer: RISTULVA_EVENT_CONNECTED or _FAILED tells what came of it */
-#define RISTULVA_DO_CLOSE 2u             /* close the connection, or give up the one that is sought */
+#define RISTULVA_DO_NOTHING 0u           /* after the last action */
+#define RISTULVA_DO_SEEK 1u              /* seek a connection to the peer: RISTULVA_EVENT_CONNECTED or _FAILED reports the result */
+#define RISTULVA_DO_CLOSE 2u             /* close the connection, or abandon the attempt */
 #define RISTULVA_DO_SEND_OPEN 3u         /* send the octets of `message`: the session's own OPEN */
 #define RISTULVA_DO_SEND_KEEPALIVE 4u    /* send the octets of `message` */
 #define RISTULVA_DO_SEND_NOTIFICATION 5u /* send the octets of `message`: `code` and `subcode` are its */
-#define RISTULVA_DO_ARM 6u               /* start `timer`, or start it anew, with `seconds` */
+#define RISTULVA_DO_ARM 6u               /* start or restart `timer`, with `seconds` */
 #define RISTULVA_DO_DISARM 7u            /* stop `timer` */
-#define RISTULVA_DO_ANNOUNCE 8u          /* the UPDATE that was heard announces and withdraws routes */
-#define RISTULVA_DO_WITHDRAW 9u          /* treat-as-withdraw: all routes of the UPDATE that was heard (RFC 7606, section 2) */
-#define RISTULVA_DO_FLUSH 10u            /* all routes of the peer are gone with the session */
+#define RISTULVA_DO_ANNOUNCE 8u          /* the received UPDATE announces and withdraws routes */
+#define RISTULVA_DO_WITHDRAW 9u          /* treat-as-withdraw: all routes of the received UPDATE (RFC 7606, section 2) */
+#define RISTULVA_DO_FLUSH 10u            /* the session has ended, and all routes of the peer with it */
 
 typedef struct {
     uint8_t kind;     /* RISTULVA_DO_NOTHING to RISTULVA_DO_FLUSH */
@@ -908,7 +906,7 @@ typedef struct {
     uint8_t subcode;
 } ristulva_action;
 
-/* The most things that are to be done at a time. */
+/* The most actions at a time. */
 #define RISTULVA_ACTIONS 5u
 
 /* What is to be done, in this order. */
@@ -920,103 +918,102 @@ typedef struct {
 /* What happens to a session, by the numbers of RFC 4271, section 8.1. */
 #define RISTULVA_EVENT_START 1u              /* the operator wants the session */
 #define RISTULVA_EVENT_STOP 2u               /* the operator ends it */
-#define RISTULVA_EVENT_RETRY_EXPIRED 9u      /* RISTULVA_TIMER_RETRY has run out; so with the two others */
+#define RISTULVA_EVENT_RETRY_EXPIRED 9u      /* RISTULVA_TIMER_RETRY has expired; likewise the two others */
 #define RISTULVA_EVENT_HOLD_EXPIRED 10u
 #define RISTULVA_EVENT_KEEPALIVE_EXPIRED 11u
-#define RISTULVA_EVENT_CONNECTED 16u         /* the connection stands */
-#define RISTULVA_EVENT_FAILED 18u            /* the connection, or the try for one, failed */
+#define RISTULVA_EVENT_CONNECTED 16u         /* the connection is up */
+#define RISTULVA_EVENT_FAILED 18u            /* the connection, or the attempt at one, failed */
 
-/* Tells a session what happens, and tells what is to be done. What doesn't belong in its state does nothing, nor does a timer that the
- * session hasn't started: then `actions->count` is 0.
+/* Passes an event to a session, and reports what is to be done. What doesn't belong in its state does nothing, nor does a timer that the session
+ * hasn't started: then `actions->count` is 0.
  *
- * Where a message is to be sent, its octets stand at the beginning of `message`, which has room for `room` octets, RISTULVA_MESSAGE at least;
- * the rest of the buffer is unchanged. `written` is how many octets it has: 0 where none is to be sent.
+ * Where a message is to be sent, it is written to the beginning of `message`, which has room for `room` octets, RISTULVA_MESSAGE at least; the rest
+ * of the buffer is unchanged. `written` is its length: 0 where none is to be sent.
  *
  * RISTULVA_ROOM: `room` is below RISTULVA_MESSAGE. RISTULVA_RANGE: `event` is none of the numbers above. */
 ristulva_status ristulva_session_event(ristulva_session *session, uint32_t event, ristulva_actions *actions, uint8_t *message, size_t room,
                                        size_t *written);
 
-/* What a session heard. */
+/* What a session received. */
 typedef struct {
     uint8_t heard;        /* RISTULVA_OPEN to RISTULVA_RESET */
-    uint8_t code;         /* RISTULVA_NOTIFICATION, RISTULVA_RESET: code and subcode of the NOTIFICATION that came, or is to be sent. Else 0 */
+    uint8_t code;         /* RISTULVA_NOTIFICATION, RISTULVA_RESET: code and subcode of the NOTIFICATION that was received, or is to be sent. Else 0 */
     uint8_t subcode;
-    uint32_t len;         /* how many of the octets were taken: the message's, or 19 of a header with a fault */
-    ristulva_parts parts; /* RISTULVA_UPDATE, RISTULVA_WITHDRAW: where the parts of the UPDATE lie in the octets. Else of no octets, at 0 */
+    uint32_t len;         /* the number of octets consumed: the message's, or 19 of a header with a fault */
+    ristulva_parts parts; /* RISTULVA_UPDATE, RISTULVA_WITHDRAW: the parts of the UPDATE in the octets. Else empty, at 0 */
 } ristulva_heard;
 
-/* Lets a session hear the first message of the octets that came, or a header with a fault, and tells what is to be done, as
- * ristulva_session_event does; octets behind it are ignored. The host drops the first `heard->len` octets of what it has received, and calls
- * again, until less than a message is left.
+/* Passes the first message of the received octets, or a header with a fault, to a session, and reports what is to be done, as
+ * ristulva_session_event does; octets after it are ignored. The host drops the first `heard->len` octets of what it has received, and calls again,
+ * until less than a message remains.
  *
- * An UPDATE is as it came: its routes are walked by the cursors above, in the context of ristulva_session_context, and ristulva_notes
- * has its notes. It doesn't allocate.
+ * An UPDATE is as received: its routes are walked by the cursors above, in the context of ristulva_session_context, and ristulva_notes has its
+ * notes. It doesn't allocate.
  *
- * RISTULVA_ROOM: `room` is below RISTULVA_MESSAGE. RISTULVA_STATE: the connection doesn't stand, so that octets have no meaning (Idle,
- * Connect, Active). RISTULVA_INCOMPLETE: the octets are an incomplete message. */
+ * RISTULVA_ROOM: `room` is below RISTULVA_MESSAGE. RISTULVA_STATE: the connection isn't up, so that octets have no meaning (Idle, Connect, Active).
+ * RISTULVA_INCOMPLETE: the octets are an incomplete message. */
 ristulva_status ristulva_session_hear(ristulva_session *session, const uint8_t *octets, size_t len, ristulva_heard *heard,
                                       ristulva_actions *actions, uint8_t *message, size_t room, size_t *written);
 
-/* Tells what both speakers agreed on, and the Hold Time in seconds, 0 for none. Each field of the context is 0 or 1.
+/* Reports what both speakers agreed on, and the Hold Time in seconds, 0 for none. Each field of the context is 0 or 1.
  *
- * RISTULVA_STATE: no OPEN of the peer is accepted yet, or the session has ended. So it is in all states but OpenConfirm and Established. */
+ * RISTULVA_STATE: no OPEN of the peer is accepted yet, or the session has ended: in all states but OpenConfirm and Established. */
 ristulva_status ristulva_session_context(ristulva_session *session, ristulva_context *context, uint16_t *hold);
 
-/* What a peer said of itself in its OPEN (RFC 4271, section 4.2; RFC 5492). */
+/* The parameters of a peer's OPEN (RFC 4271, section 4.2; RFC 5492). */
 typedef struct {
-    uint32_t as_number; /* that of its capability for AS numbers of four octets, else My Autonomous System (RFC 6793, section 4.1) */
+    uint32_t as_number; /* that of its capability for 4-octet AS numbers, else My Autonomous System (RFC 6793, section 4.1) */
     uint8_t id[4];      /* its BGP Identifier, highest octet first */
     uint16_t hold;      /* the Hold Time that it proposes, in seconds: 0 for none */
-    uint8_t as4;        /* whether it offers AS numbers of four octets: 0 or 1 */
+    uint8_t as4;        /* whether it offers 4-octet AS numbers: 0 or 1 */
     uint8_t ip4;        /* IPv4 unicast */
     uint8_t ip6;        /* IPv6 unicast */
 } ristulva_peer;
 
-/* Tells what the peer said of itself. RISTULVA_STATE: as for ristulva_session_context. */
+/* Reports the parameters of the peer's OPEN. RISTULVA_STATE: as for ristulva_session_context. */
 ristulva_status ristulva_session_peer(ristulva_session *session, ristulva_peer *peer);
 
-/* Writes the codes of all capabilities that the peer offers, whatever their values, to the beginning of `codes`, which has room for `room`
- * octets: each once, rising, at most 256. `written` is how many they are (RFC 5492, section 4).
+/* Writes the codes of all capabilities that the peer offers, whatever their values, to the beginning of `codes`, which has room for `room` octets:
+ * each once, in ascending order, at most 256. `written` is their number (RFC 5492, section 4).
  *
- * RISTULVA_STATE: as for ristulva_session_context. RISTULVA_ROOM: `written` is written, and says how much room is needed. */
+ * RISTULVA_STATE: as for ristulva_session_context. RISTULVA_ROOM: `written` is written, with the room that is needed. */
 ristulva_status ristulva_session_codes(ristulva_session *session, uint8_t *codes, size_t room, size_t *written);
 
-/* Writes the message of the session's own OPEN to the beginning of `message`, which has room for `room` octets: at most 49. `written` is how
- * many octets it has.
+/* Writes the message of the session's own OPEN to the beginning of `message`, which has room for `room` octets: at most 49. `written` is its
+ * length.
  *
- * RISTULVA_ROOM: `written` is written, and says how much room is needed. */
+ * RISTULVA_ROOM: `written` is written, with the room that is needed. */
 ristulva_status ristulva_session_open(ristulva_session *session, uint8_t *message, size_t room, size_t *written);
 
-/* Writes the message of an UPDATE as a session sends it now to the beginning of `message`, as ristulva_encode does, and tells what is to be
- * done when it is sent: the Keepalive Timer is started anew, where there is one. `body` has AS numbers of four octets, whatever the
- * session has, and one kind of routes: withdrawn, announced, or those of one of the multiprotocol attributes (RFC 7606, section 5.1).
- * For a peer with AS numbers of two octets it is written as ristulva_narrow does. The session stays as it is. It allocates.
+/* Writes the message of an UPDATE as a session sends it now to the beginning of `message`, as ristulva_encode does, and reports what is to be done
+ * when it is sent: the Keepalive Timer is restarted, where there is one. `body` has 4-octet AS numbers, whatever the session has, and one kind of
+ * routes: withdrawn, announced, or those of one of the multiprotocol attributes (RFC 7606, section 5.1). For a peer with 2-octet AS numbers it is
+ * written as by ristulva_narrow. The session is unchanged. It allocates.
  *
- * RISTULVA_ROOM: `room` is below RISTULVA_MESSAGE. RISTULVA_STATE: the session isn't Established, whatever the body is. RISTULVA_RANGE: the
- * body has more than RISTULVA_BODY octets. RISTULVA_REFUSED: it isn't accepted whole. RISTULVA_MIXED: it is, and has routes of several
- * kinds. RISTULVA_UNWRITABLE: it has routes of one kind, and the message would have more than RISTULVA_MESSAGE octets. RISTULVA_MEMORY: only
- * where it is accepted whole. */
+ * RISTULVA_ROOM: `room` is below RISTULVA_MESSAGE. RISTULVA_STATE: the session isn't Established, whatever the body is. RISTULVA_RANGE: the body
+ * has more than RISTULVA_BODY octets. RISTULVA_REFUSED: it isn't accepted whole. RISTULVA_MIXED: it is, and has routes of several kinds.
+ * RISTULVA_UNWRITABLE: it has routes of one kind, and the message would have more than RISTULVA_MESSAGE octets. RISTULVA_MEMORY: only where it is
+ * accepted whole. */
 ristulva_status ristulva_session_send(ristulva_session *session, const uint8_t *body, size_t len, ristulva_actions *actions, uint8_t *message,
                                       size_t room, size_t *written);
 
 /* ---- a guard between two speakers (RFC 7606; RFC 4271) ----
  *
- * A guard stands in one session between an outer peer and an inner speaker. What a side sends is handed on to the other cleaned, as by
- * ristulva_clean, in the context that both OPENs agree on. A message that can't be ends the session of both: its sender gets the NOTIFICATION
- * that answers it, and the other side Cease, Administrative Reset (6/4); where an OPEN offers neither IPv4 nor IPv6 unicast, both get 6/5. A
- * NOTIFICATION is handed on, and ends it too. Then nothing more is read, and each side is to be closed once it was sent what is on its way.
+ * A guard is in one session between an outer peer and an inner speaker. What a side sends is passed on to the other cleaned, as by ristulva_clean,
+ * in the context that both OPENs agree on. A message that can't be ends the session of both: its sender gets the NOTIFICATION that answers it, and
+ * the other side Cease, Administrative Reset (6/4); where an OPEN offers neither IPv4 nor IPv6 unicast, both get 6/5. A NOTIFICATION is passed on,
+ * and ends it too. Then nothing more is read, and each side is to be closed once it was sent what is queued.
  *
  * The guard does no IO and knows no time: its host has both connections and a clock. In its loop it asks for each side what is to be done
- * (ristulva_guard_asks), reads and hands in what came (ristulva_guard_hear), sends what is on its way (ristulva_guard_way, ristulva_guard_sent),
- * and closes. It tells when a side is connected or closed (ristulva_guard_event), and of each second (ristulva_guard_tick).
+ * (ristulva_guard_asks), reads and passes what arrived (ristulva_guard_hear), sends what is queued (ristulva_guard_way, ristulva_guard_sent), and
+ * closes. It reports when a side is connected or closed (ristulva_guard_event), and each second (ristulva_guard_tick).
  *
  * A handle is the caller's. It begins as {NULL}, gets a guard by ristulva_guard_new, and loses it by ristulva_guard_free; the guard is memory of
- * the library's, some 145 KB: 68 KB on the way to each side, and an incomplete message of each. No other call allocates. A handle isn't copied,
- * and its pointer isn't changed. It may go from thread to thread, but no two calls are handed the same handle at one time; different guards share
- * nothing.
+ * the library's, some 145 KB: 68 KB queued for each side, and an incomplete message of each. No other call allocates. A handle isn't copied, and
+ * its pointer isn't changed. It may move between threads, but no two calls are given the same handle at one time; different guards share nothing.
  *
  * Each call answers RISTULVA_NO_GUARD where the handle has none; RISTULVA_RANGE, the number of a side or of an event, is checked before that. A
- * status other than RISTULVA_OK says that nothing has changed, and that nothing was written.
+ * status other than RISTULVA_OK means that nothing has changed, and that nothing was written.
  */
 
 struct ristulva_guard_body;
@@ -1030,81 +1027,81 @@ typedef struct {
 #define RISTULVA_INNER 1u /* the speaker that is guarded */
 
 /* Makes a guard of which neither side is connected. Unrecognised attributes are left out but for those of the types in `pass`, `count` of them in
- * any order. Where `one_way` isn't 0, the inner speaker's routes stay inside: no UPDATE of its is handed on. It allocates all
- * that the guard ever takes.
+ * any order. Where `one_way` isn't 0, the inner speaker's routes stay inside: none of its UPDATEs is passed on. It allocates all that the guard
+ * ever uses.
  *
  * RISTULVA_IN_USE, the handle has a guard; RISTULVA_MEMORY, only where it has none. */
 ristulva_status ristulva_guard_new(const uint8_t *pass, size_t count, uint8_t one_way, ristulva_guard *guard);
 
-/* Frees a guard: the handle has none then. Nothing is sent by that. */
+/* Frees a guard: the handle has none then. Nothing is sent. */
 ristulva_status ristulva_guard_free(ristulva_guard *guard);
 
-/* What happens to a side, but for octets. */
-#define RISTULVA_SIDE_STOOD 1u       /* its connection stands */
-#define RISTULVA_SIDE_UNREACHABLE 2u /* it doesn't stand, and can't be reached: the other side is told (6/5), and the guard ends */
-#define RISTULVA_SIDE_CLOSED 3u      /* it stood, and was closed or lost: the guard ends, and the other side still gets what is on its way */
-#define RISTULVA_SIDE_STALLED 4u     /* it takes nothing for too long (ristulva_guard_stall): what is on its way to it is dropped, the other side is told
-                                        (4/0), and the guard ends */
+/* Events of a side, but for octets. */
+#define RISTULVA_SIDE_STOOD 1u       /* its connection is up */
+#define RISTULVA_SIDE_UNREACHABLE 2u /* it isn't up, and can't be reached: the other side is sent 6/5, and the guard ends */
+#define RISTULVA_SIDE_CLOSED 3u      /* it was up, and was closed or lost: the guard ends, and the other side still gets what is queued for it */
+#define RISTULVA_SIDE_STALLED 4u     /* it reads nothing for too long (ristulva_guard_stall): what is queued for it is dropped, the other side is
+                                      * sent 4/0, and the guard ends */
 
-/* Tells a guard what happens to a side. What doesn't belong where the side stands does nothing. RISTULVA_RANGE: `side` or `event` is none of the
+/* Passes an event of a side to a guard. What doesn't belong in the state of the side does nothing. RISTULVA_RANGE: `side` or `event` is none of the
  * numbers above. */
 ristulva_status ristulva_guard_event(ristulva_guard *guard, uint32_t side, uint32_t event);
 
-/* Tells a guard that a second has gone by. Each side has 240 of them for its OPEN, from when the first side was connected; then the guard ends
- * (4/0 to a side without an OPEN, else 6/4). What is on its way once the guard has ended has 10 seconds. */
+/* Reports to a guard that a second has passed. Each side has 240 of them for its OPEN, from when the first side was connected; then the guard ends
+ * (4/0 to a side without an OPEN, else 6/4). Once the guard has ended, queued octets may be sent for 10 seconds. */
 ristulva_status ristulva_guard_tick(ristulva_guard *guard);
 
-/* Ends the session: each side that is connected is told (6/2) after what is on its way, and the guard ends. Where it has ended nothing happens. */
+/* Ends the session: each side that is connected is sent 6/2 after what is queued, and the guard ends. Where it has ended nothing happens. */
 ristulva_status ristulva_guard_stop(ristulva_guard *guard);
 
-/* Tells for how many seconds what is on its way to a side may stand still before the side has stalled (RISTULVA_SIDE_STALLED): the Hold Time that both OPENs
- * agree on, 240 where that is 0 or an OPEN is missing. */
+/* Reports for how many seconds what is queued for a side may stay unsent before the side has stalled (RISTULVA_SIDE_STALLED): the Hold Time that
+ * both OPENs agree on, 240 where that is 0 or an OPEN is missing. */
 ristulva_status ristulva_guard_stall(ristulva_guard *guard, uint16_t *seconds);
 
-/* What a guard asks of its host for a side. */
+/* What a guard requires of its host for a side. */
 typedef struct {
-    uint8_t listens; /* 1: octets of the side are read. 0: it isn't connected, too much is on the way to the other side, or the guard has ended */
-    uint8_t closes;  /* 1: the side is to be closed, or sought no longer. Else 0 */
-    uint8_t ended;   /* 1: the guard has ended, and nothing is read of either side any more. Else 0 */
-    size_t way;      /* how many octets are on their way to the side: 69632 at most */
+    uint8_t listens; /* 1: octets of the side are read. 0: it isn't connected, too much is queued for the other side, or the guard has ended */
+    uint8_t closes;  /* 1: the side is to be closed, or no longer sought. Else 0 */
+    uint8_t ended;   /* 1: the guard has ended, and nothing more is read of either side. Else 0 */
+    size_t way;      /* the number of octets queued for the side: 69632 at most */
 } ristulva_asks;
 
-/* Tells what a guard asks of its host for a side. */
+/* Reports what a guard requires of its host for a side. */
 ristulva_status ristulva_guard_asks(ristulva_guard *guard, uint32_t side, ristulva_asks *asks);
 
-/* What came of octets. */
+/* The result of octets. */
 #define RISTULVA_CAME_NOTHING 0u   /* no message is complete yet, or the side isn't read */
-#define RISTULVA_CAME_HANDED_ON 1u /* a message was handed on; a NOTIFICATION ends the guard */
+#define RISTULVA_CAME_HANDED_ON 1u /* a message was passed on; a NOTIFICATION ends the guard */
 #define RISTULVA_CAME_ANSWERED 2u  /* the side was answered by a NOTIFICATION, and the guard has ended */
-#define RISTULVA_CAME_DROPPED 3u   /* nothing was handed on of an UPDATE: it has no routes, or they stay inside */
+#define RISTULVA_CAME_DROPPED 3u   /* nothing was passed on of an UPDATE: it has no routes, or they stay inside */
 
 typedef struct {
     uint8_t what; /* RISTULVA_CAME_NOTHING to RISTULVA_CAME_DROPPED */
-    uint8_t kind; /* RISTULVA_CAME_HANDED_ON, RISTULVA_CAME_DROPPED: the type of the message that came, 1 to 4. Else 0 */
-    uint8_t same; /* RISTULVA_CAME_HANDED_ON: 1 where what was handed on has the same octets. Else 0 */
+    uint8_t kind; /* RISTULVA_CAME_HANDED_ON, RISTULVA_CAME_DROPPED: the type of the received message, 1 to 4. Else 0 */
+    uint8_t same; /* RISTULVA_CAME_HANDED_ON: 1 where what was passed on has the same octets. Else 0 */
     uint8_t code; /* RISTULVA_CAME_ANSWERED: code and subcode of that NOTIFICATION (RFC 4271, section 4.5). Else 0 */
     uint8_t subcode;
 } ristulva_came;
 
-/* Takes octets of a side up to the end of a message, with those of an incomplete message that it holds in front of them, and hands the message on, or
- * answers it. `taken` is how many of the `len` octets it took: of some one at least where it listens to the side, and else none. The host hands in
- * the rest again, until all is taken; while the guard doesn't listen, it keeps the rest. */
+/* Consumes octets of a side up to the end of a message, after those of an incomplete message that it holds, and passes the message on, or answers
+ * it. `taken` is how many of the `len` octets it consumed: where it listens to the side, at least one if there are any, and else none. The host
+ * passes the rest again, until all is consumed; while the guard doesn't listen, it keeps the rest. */
 ristulva_status ristulva_guard_hear(ristulva_guard *guard, uint32_t side, const uint8_t *octets, size_t len, size_t *taken, ristulva_came *came);
 
-/* Copies the first octets that are on their way to a side to the beginning of `octets`, as many as there are, and `room` at most: `written` of them;
- * the rest of the buffer is unchanged. They stay on their way until ristulva_guard_sent. */
+/* Copies the first octets queued for a side to the beginning of `octets`, as many as there are, and `room` at most: `written` of them; the rest of
+ * the buffer is unchanged. They stay queued until ristulva_guard_sent. */
 ristulva_status ristulva_guard_way(ristulva_guard *guard, uint32_t side, uint8_t *octets, size_t room, size_t *written);
 
-/* Tells a guard that the first `count` octets on their way to a side are sent: all of them where there are no more. */
+/* Reports to a guard that the first `count` octets queued for a side are sent: all of them where there are fewer. */
 ristulva_status ristulva_guard_sent(ristulva_guard *guard, uint32_t side, size_t count);
 
-/* Tells what a side said of itself in its OPEN, as that was handed on. RISTULVA_STATE: none was yet. */
+/* Reports the parameters of a side's OPEN, as it was passed on. RISTULVA_STATE: none was yet. */
 ristulva_status ristulva_guard_peer(ristulva_guard *guard, uint32_t side, ristulva_peer *peer);
 
 /* ---- a null pointer beside a length 0 ----
  *
- * Each call that is handed a pointer with a length is inline here too, under its own name: where the length is 0, it hands on another pointer in
- * place of the caller's, which can be null. So it is with GCC and Clang; a call by a pointer to a function goes past it.
+ * Each call with a pointer and a length is inline here too, under its own name: where the length is 0, it passes another pointer instead of the
+ * caller's, which can be null. This holds with GCC and Clang; a call by a pointer to a function bypasses it.
  */
 #ifdef __GNUC__
 

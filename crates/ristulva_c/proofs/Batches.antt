@@ -1,5 +1,5 @@
--- Messages of a batch, one behind another.
-use Rattle.ristulva_c.proofs.Below.{◌≡◌, ℕ, ◌+◌, ◌-◌, ◌<◌, ◌≤◌, Bool, cond, eqb, List, [], ◌∷◌, ◌++◌, length, drop, refl, sym, ap, subst, ◌∙◌, arith, eq-eqb, ne_eqb, append-nil, append_assoc, length-drop, Waits, wanted, Context}
+-- Messages of a batch, in sequence.
+use Rattle.ristulva_c.proofs.Below.{◌≡◌, ℕ, ◌+◌, ◌-◌, ◌<◌, ◌≤◌, Bool, cond, eqb, List, [], ◌∷◌, ◌++◌, length, drop, refl, sym, ap, subst, ◌∙◌, arith, eq-eqb, ne_eqb, append-nil, append_assoc, length-drop, Waits, wanted_in, Context}
 use Rattle.bgp_frame.specs.declared.step.Step.TheVariants as step
 use Rattle.ristulva_c.specs.Batch.{Giving, Taken, IsTaken, Stand, octets_taken, rows_taken, EndsAt, TakesAll}
 use Rattle.ristulva_c.specs.declared.status.TheConstants.{INCOMPLETE, OK}
@@ -7,7 +7,7 @@ use Rattle.ristulva_c.specs.Prelude.{Holds, Takes, Stops}
 use Rattle.ristulva_c.proofs.Rows.{hold_length}
 
 module _ {Row : Type 0} (gives : Giving Row) (ctx : Context) (octets : List ℕ) where
-  -- the messages up to an offset are taken
+  -- the messages up to an offset are accepted
   pub record IsWalk (taken written : ℕ) (before list : List Row) : Type 0 where
     pub messages : List (Taken Row)
     pub stand : Stand gives ctx octets 0 messages
@@ -55,9 +55,9 @@ module _ {Row : Type 0} (gives : Giving Row) (ctx : Context) (octets : List ℕ)
     ends = subst (λ (n : ℕ). EndsAt gives ctx octets at (n - from) s.found status) (hold_length (rows_taken walk.messages) from list before walk.holds) s.ends;
   }
 
--- where nothing is left, less than a message is
+-- where nothing remains, there is less than a message
 nothing_waits : (b : List ℕ) → length b ≡ 0 → Waits b
-unfolding wanted
+unfolding wanted_in
 nothing_waits [] none = omega arith
 nothing_waits (x ∷ b) none = absurd (omega (arith, none))
 
@@ -72,6 +72,6 @@ module _ {Row : Type 0} (gives : Giving Row) (ctx : Context) (octets : List ℕ)
         ends = sym (ap (λ (b : Bool). cond b OK INCOMPLETE) (eq-eqb at (length octets) (omega (arith, over, walk.within))));
       })
 
--- octets that stand there are incomplete where they are less than a message
+-- remaining octets that are less than a message are an incomplete message
 pub incomplete : (at n : ℕ) → at < n → INCOMPLETE ≡ cond (eqb at n) OK INCOMPLETE
 incomplete at n before = sym (ap (λ (b : Bool). cond b OK INCOMPLETE) (ne_eqb at n (λ (same : at ≡ n). omega (arith, same, before))))

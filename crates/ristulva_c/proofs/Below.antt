@@ -17,12 +17,12 @@ pub use Rattle.bgp_numbers.specs.declared.safi.TheConstants.{UNICAST}
 pub use Rattle.bgp_prefix.specs.Prelude.{IsPrefix, PrefixValue, one_prefix, run_of}
 pub use Rattle.bgp_prefix.specs.declared.as_number.AsNumber.{AsNumber}
 pub use Rattle.bgp_prefix.proofs.PrefixLemmas.{IsPrefix-reads}
-pub use Rattle.bgp_frame.specs.Prelude.{IsContent, IsFrame, Message, ShowsFront, ShowsStep, Stops, Takes, Waits, code_of, head_of, header, least_length, length_field, message_in, notification_of_view, wanted_by}
-unfoldable pub use Rattle.bgp_frame.specs.Prelude.{wanted}
+pub use Rattle.bgp_frame.specs.Prelude.{IsContent, IsFrame, Message, ShowsFront, ShowsStep, Stops, Takes, Waits, code_of, head_of, header, least_length, length_field, message_in, notification_of_view, wanted, wanted_by}
+unfoldable pub use Rattle.bgp_frame.specs.Prelude.{wanted_in}
 pub use Rattle.bgp_frame.specs.declared.fault.HeadFault.{HeadFault}
 pub use Rattle.bgp_frame.specs.declared.kind.Kind.{Kind}
 pub use Rattle.bgp_frame.specs.declared.notification.Notification.{Notification}
-pub use Rattle.bgp_frame.specs.declared.step.Step.{Step}
+pub use Rattle.bgp_frame.specs.Step.{Step}
 pub use Rattle.bgp_frame.proofs.FrameLemmas.{Stops-wanted, length-octets_of, wanted_by_head}
 pub use Rattle.bgp_frame.proofs.Headers.{length-header}
 pub use Rattle.bgp_open.specs.Prelude.{IsCapability, IsParameter, capabilities_left, capabilities_of, capability_of, joined, one_capability, one_parameter, open_fault, open_notification, open_of, open_value, or_fault, parameters_of, reading_of}

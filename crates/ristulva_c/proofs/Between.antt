@@ -12,7 +12,7 @@ between_later b at n end first last =
     ap (λ (k : ℕ). drop (n - at) (take k (drop at b))) parts ∙ drop-take (n - at) (end - n) (drop at b)
     ∙ ap (take (end - n)) (drop-drop (n - at) at b ∙ ap (λ (k : ℕ). drop k b) whole)
 
--- so many octets, and others behind them
+-- n octets, and others after them
 module _ (b : List ℕ) (at end n : ℕ) (front rest : List ℕ) (order : at ≤ end) (within : end ≤ length b) (long : length front ≡ n) (is : between b at end ≡ front ++ rest) where
   pub fits : at + n + length rest ≡ end
   fits = omega (arith, length_between b at end order within, ap length is, length-append front rest, long)
@@ -26,7 +26,7 @@ module _ (b : List ℕ) (at end n : ℕ) (front rest : List ℕ) (order : at ≤
       ∙ ap (λ (k : ℕ). drop k (between b at end)) (let e : (at + n) - at ≡ n = omega arith in e)
       ∙ ap (drop n) is ∙ drop_at front rest n long
 
--- a value behind a head
+-- a value after a head
 pub value_at : (b : List ℕ) (at end : ℕ) (head value rest : List ℕ) → at ≤ end → end ≤ length b → between b at end ≡ (head ++ value) ++ rest → take (length value) (drop (at + length head) b) ≡ value
 value_at b at end head value rest order within is =
     ap (take (length value)) (sym (drop-drop (length head) at b)) ∙ sym (drop-take (length head) (length value) (drop at b))

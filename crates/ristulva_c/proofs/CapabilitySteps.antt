@@ -1,4 +1,4 @@
--- From a capability to those behind it.
+-- From a capability to those after it.
 use Rattle.ristulva_c.proofs.Below.{◌≡◌, ℕ, ◌+◌, ◌-◌, ◌≤◌, List, [], ◌∷◌, ◌++◌, length, get_or, take, drop, Some, None, refl, sym, ap, ap₂, ◌∙◌, arith, CAPABILITIES, pieces, Capability, IsCapability, capability_of, one_capability, capabilities_of, one_parameter}
 use Rattle.bgp_wire.proofs.Behinds.{pieces-whole}
 use Rattle.bgp_open.proofs.Capabilities.{capability-reads}
@@ -75,12 +75,12 @@ passes b old cs rest stop lies none e behind =
           ∙ sym (is_over (between b old.at old.stop) (capabilities_of later) (sym none) ∙ begins later rest cs e),
     )
 
--- nothing is left
+-- nothing remains
 pub none_left : (b : List ℕ) (old : Capabilities) → one_capability (between b old.at old.stop) ≡ None → one_parameter (between b old.stop old.end) ≡ None → capabilities_left b old ≡ []
 none_left b old none over =
     is_over (between b old.at old.stop) (capabilities_of (between b old.stop old.end)) (sym none) ∙ ends (between b old.stop old.end) (sym over)
 
--- what is given of a cursor that moved over parameters is given of the cursor before
+-- what a cursor gives after it moved over parameters is what the cursor before gives
 pub given_before : (b : List ℕ) (first old new : Capabilities) (out : OpenCapability) → capabilities_left b old ≡ capabilities_left b first → old.end ≡ first.end
     → IsGiven b old new out → IsGiven b first new out
 given_before b first old new out left end g = record {

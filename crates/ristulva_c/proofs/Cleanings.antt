@@ -1,4 +1,4 @@
--- What is handed on stands behind what was there, and is clean.
+-- What is passed on is written after what was there, and is clean.
 use Rattle.ristulva_c.proofs.Below.{◌≡◌, ℕ, Bool, List, ◌++◌, take, Result, Ok, Err, sym, subst, ◌∙◌, append-nil, AreOctets, Step, ShowsFront, message_in, Context, AreOctets-take}
 use Rattle.bgp_frame.specs.declared.step.Step.TheVariants as step
 use Rattle.bgp_msg.specs.declared.message.Message.{Message}
@@ -24,7 +24,7 @@ pub handed_on : (ctx : Context) (drops : ℕ → Bool) (first : Bool) (octets : 
     → IsHandedOn ctx drops first octets c
 handed_on ctx drops first octets found c are shows hands = record { found = found; shows = shows; hands = hands; clean = hands_clean ctx drops first octets found are shows }
 
--- the same of a context and a set that are these
+-- the same for an equal context and set
 pub handed_on_by : (ctx ctx' : Context) (drops drops' : ℕ → Bool) (first : Bool) (octets : List ℕ) (found : Step) (c : Cleaning) → ctx' ≡ ctx → drops' ≡ drops → AreOctets octets → ShowsFront octets found
     → Hands ctx' drops' first found c → IsHandedOn ctx drops first octets c
 handed_on_by ctx ctx' drops drops' first octets found c same_ctx same_drops are shows hands =

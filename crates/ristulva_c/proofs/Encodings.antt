@@ -1,4 +1,4 @@
--- What is written and sent of an UPDATE.
+-- The written and the sent form of an UPDATE.
 use Rattle.ristulva_c.proofs.Below.{◌≡◌, Bool, true, false, not, cond, ℕ, ◌+◌, ◌≤◌, List, [], ◌++◌, length, Option, Some, None, refl, ap, ◌∙◌, arith, le-ltb, false_from_ne_true, is_none, IsTrue, AreOctets, Context, Invalid, Note, Update, HasNoAs4, verdict_of, written_body, canonical, written, invalid_of, is_valid, is_too_long, length-octets_of}
 use Rattle.bgp_update.specs.Prelude.{invalid_of as invalid_in}
 use Rattle.bgp_update.specs.declared.verdict.Verdict.TheVariants as verdict
@@ -6,6 +6,8 @@ use Rattle.bgp_update.proofs.Taken.{taken-written}
 use Rattle.bgp_update.proofs.Widths.{wide_update_has_no_as4}
 use Rattle.bgp_msg.specs.declared.message.Message.TheVariants as message
 use Rattle.ristulva_c.specs.Prelude.{encoded_of, short_of, written_of}
+use Rattle.bgp_frame.specs.Kind.{plain}
+use Rattle.bgp_frame.specs.steps.AreTypes.{plain-are}
 
 none_valid : (o : Option Invalid) → ((why : Invalid) → o ≡ Some why → ⊥) → is_none o ≡ true
 none_valid None never = refl
@@ -33,11 +35,11 @@ module _ (ctx : Context) (u : Update) where
       at true = refl
       at false = refl
 
-  -- what is accepted is
+  -- what is accepted is written
   pub taken_written : (body : List ℕ) (notes : List Note) → AreOctets body → length body ≤ 4077 → verdict_of ctx body ≡ verdict.Take u notes → written_of ctx u ≡ encoded_of ctx u
   taken_written body notes octets short e =
       let can = taken-written ctx body u notes octets e in
-      let len : length (canonical ctx (message.Update u)) ≡ 19 + length (written_body ctx u) = length-octets_of (written ctx (message.Update u)) in
+      let len : length (canonical ctx (message.Update u)) ≡ 19 + length (written_body ctx u) = length-octets_of plain plain-are (written ctx (message.Update u)) in
       let fits : is_too_long ctx (message.Update u) ≡ false = le-ltb 4096 (length (canonical ctx (message.Update u))) (omega (arith, len, can.no_longer, short)) in
       valid_written can.valid ∙ (rw fits refl)
 
@@ -50,6 +52,6 @@ module _ (ctx : Context) (u : Update) where
 pub taken_is_valid : (ctx : Context) (body : List ℕ) (u : Update) (notes : List Note) → AreOctets body → verdict_of ctx body ≡ verdict.Take u notes → invalid_in ctx u ≡ None
 taken_is_valid ctx body u notes octets e = let can = taken-written ctx body u notes octets e in can.valid
 
--- and has no attribute for AS numbers of two octets, where they have four
+-- and has neither AS4_PATH nor AS4_AGGREGATOR, where AS numbers have four octets
 pub taken_has_no_as4 : (ctx : Context) (body : List ℕ) (u : Update) (notes : List Note) → ctx.as4 ≡ true → AreOctets body → verdict_of ctx body ≡ verdict.Take u notes → HasNoAs4 u.attrs
 taken_has_no_as4 ctx body u notes wide octets e = wide_update_has_no_as4 ctx u wide (taken_is_valid ctx body u notes octets e)

@@ -1,4 +1,4 @@
--- The octets at the offsets that are told of an UPDATE hold its paths and communities.
+-- The octets at the reported offsets of an UPDATE are its paths and communities.
 use Rattle.ristulva_c.proofs.Below.{◌≡◌, ℕ, ◌+◌, ◌≤◌, true, eqb, List, length, take, Option, Some, None, sym, ap, ◌∙◌, find, is_some, option_map, AS_PATH, AS4_PATH, COMMUNITIES, LARGE_COMMUNITY, AreOctets, Message, IsFrame, Kind, Context, numbers_of, triples_of, each_once, path_of, PlacedTlv, as_path_form, as4_path_form, Communities, LargeCommunities, As4Path, Attrs, marks_of, placed_tlvs, Parts, parts_of, kept_of, attrs_of, Outcome, out_of}
 use Rattle.ristulva_c.specs.Prelude.{attrs_in, PathsLie, paths_told, parts_told, fields_of, Lie, first_of_type, value_at, value_in, kept_at, octets_in}
 use Rattle.ristulva_c.proofs.FirstPlaces.{found_lies}
@@ -7,7 +7,7 @@ use Rattle.ristulva_c.proofs.Outcomes.{by_kind}
 use Rattle.ristulva_c.proofs.PartPlaces.{lie}
 use Rattle.ristulva_c.proofs.RouteLists.{room_in, value_there}
 
--- ---- the place that is told
+-- ---- the reported offset
 
 pub value_of_fields : (kind : ℕ) (o : Option Parts) (w n : ℕ) (f : List ℕ) (q : Option PlacedTlv) → Some (w, f, n) ≡ option_map fields_of o → q ≡ find (λ t. eqb t.tlv.kind kind) (placed_tlvs f) → value_at (23 + w) q ≡ value_in kind o
 value_of_fields kind None w n f q is found = absurd cc
@@ -17,7 +17,7 @@ value_of_fields kind (Some p) w n f q is found =
 
 -- ---- the attributes of an UPDATE that is accepted
 
--- are those that are kept of its parts
+-- they are those that are kept of its parts
 pub record AreKept (ctx : Context) (body : List ℕ) (a : Attrs) : Type 0 where
   pub parts : Parts
   pub whole : parts_of body ≡ Some parts
@@ -30,7 +30,7 @@ are_kept ctx body a k =
     (λ p whole is. record { parts = p; whole = whole; kept = let same : Some (attrs_of (kept_of (marks_of ctx p))) ≡ Some a = is in cc })
     (λ p whole. none) k
 
--- ---- what lies there
+-- ---- the octets there
 
 module _ (ctx : Context) (octets : List ℕ) (p : Parts) (lies : Lie octets p (parts_told (Some p))) (room : 23 + length p.withdrawn + length p.attributes + length p.nlri ≤ length octets) where
   there : (kind : ℕ) (q : PlacedTlv) → first_of_type kind p ≡ Some q → octets_in (value_in kind (Some p)) octets ≡ q.tlv.value

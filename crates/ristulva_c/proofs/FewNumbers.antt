@@ -1,4 +1,4 @@
--- A message has no more numbers in its path, and no more communities, than octets behind its header and its two lengths.
+-- A message has no more numbers in its path, and no more communities, than octets after its header and its two lengths.
 use Rattle.ristulva_c.proofs.Below.{◌≡◌, ℕ, suc, ◌+◌, ◌-◌, ◌*◌, ◌≤◌, Bool, true, false, cond, eqb, ltb, List, [], ◌∷◌, ◌++◌, length, Option, Some, None, refl, sym, ap, subst, ◌∙◌, arith, flat_map, length-append, length-map, length-take, flat_map-cons, AS_PATH, AS4_PATH, AreOctets, Row, Kind, Context, AsNumber, Aggregator, Communities, LargeCommunities, As4Path, AsPath, SegKind, Set, Seq, Segment, PathForm, number_width, IsNumber, one_number, IsTriple, one_triple, triples_of, WireSegment, IsSegment, one_segment, segments_of, kept_segment, segment_kept_as, kind_of_segment, as_number, path_of, as_path_form, as4_path_form, items_of, items_behind, front_by, lead, rebuilt_path, rebuilt_by, rebuilt, is_as_trans, marks_of, Parts, kept_of, attrs_of, Attrs, PathInfo, out_of, Outcome, not_more, Splits-pieces, IsNumber-reads, IsSegment-reads, IsTriple-reads, length-body, parts-body}
 use Rattle.bgp_attr.proofs.OnceLemmas.{each_once-shorter}
 use Rattle.bgp_attr.proofs.NumberRows.{length-number_row}
@@ -91,7 +91,7 @@ rebuilt_weight None w path as4_path = rebuilt_path_weight path as4_path
 
 -- ---- the attributes of an UPDATE that is accepted
 
--- so many numbers at most stand in them
+-- they have at most this many numbers
 pub record HasFewNumbers (most : ℕ) (a : Attrs) : Type 0 where
   pub path : (p : AsPath) → (rebuilt a).path ≡ Some p → numbers_in p.segments + length p.segments ≤ most
   pub communities : (c : Communities) → a.communities ≡ Some c → length c.values ≤ most

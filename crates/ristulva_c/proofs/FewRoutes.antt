@@ -1,4 +1,4 @@
--- A message has no more routes than octets behind its header and its two lengths.
+-- A message has no more routes than octets after its header and its two lengths.
 use Rattle.ristulva_c.proofs.Below.{◌≡◌, ℕ, ◌+◌, ◌-◌, ◌≤◌, Bool, true, false, eqb, List, ◌++◌, length, Option, Some, None, refl, sym, ap, ◌∙◌, arith, cond, [], ◌∷◌, length-map, find, eqb-true, length-append, length-drop, IPV4, IPV6, MP_REACH_NLRI, MP_UNREACH_NLRI, AreOctets, Row, Kind, Context, PrefixValue, run_of, IsPrefix, one_prefix, MpReach, MpUnreach, next_hop_length, reached_of, withdrawn_of, mp_reach_of, mp_unreach_of, PlacedTlv, TlvValue, IsTlv, one_tlv, tlvs_of, placed_from, Mark, marks_of, gone_ip4, gone_ip6, reached_ip4, reached_ip6, Parts, parts_of, kept_of, attrs_of, update_of, placed_tlvs, Attrs, Outcome, out_of, not_more, Splits-pieces, IsTlv-reads, length-body, parts-body, IsPrefix-reads}
 use Rattle.bgp_attr.specs.declared.mp.MpReach.TheVariants as reach
 use Rattle.bgp_attr.specs.declared.mp.MpUnreach.TheVariants as unreach
@@ -41,7 +41,7 @@ both_by q qs o u true false apart one two both = omega (arith, two)
 both_by q qs o u false true apart one two both = omega (arith, one)
 both_by q qs o u false false apart one two both = omega (arith, both)
 
--- what two tests find that never hold both
+-- what two tests that exclude each other find
 both_found : (test other : PlacedTlv → Bool) → ((q : PlacedTlv) → test q ≡ true → other q ≡ true → ⊥) → (qs : List PlacedTlv) → found_of (find test qs) + found_of (find other qs) ≤ whole_of qs
 both_found test other apart [] = omega arith
 both_found test other apart (q ∷ qs) =
@@ -52,7 +52,7 @@ whole_row [] row at spelled = omega arith
 whole_row (t ∷ ts) row at spelled =
     omega (arith, ap length spelled.2, length-append spelled.0 spelled.1, ap length spelled.3.whole, whole_row ts spelled.1 (at + length t.whole) spelled.4)
 
--- they have no more octets than the field
+-- they are no longer than the field
 two_found : (test other : PlacedTlv → Bool) → ((q : PlacedTlv) → test q ≡ true → other q ≡ true → ⊥) → (field : List ℕ)
     → found_of (find test (placed_tlvs field)) + found_of (find other (placed_tlvs field)) ≤ length field
 two_found test other apart field =
@@ -153,7 +153,7 @@ come_count None = refl
 come_count (Some (reach.Ip4 hop routes)) = omega (arith, length-map routes (as_route false IPV4))
 come_count (Some (reach.Ip6 hop link routes)) = omega (arith, length-map routes (as_route false IPV6))
 
--- by family they are as many
+-- the counts by family add up to the same
 pub all_count : (p : Parts) (ms : List Mark) → length (routes_of false (update_of p ms)) ≡ length (notes.routes_of p ms).ip4 + length (notes.routes_of p ms).ip6
 all_count p ms =
     let w4 = (run_of 4 p.withdrawn).0 in
@@ -181,7 +181,7 @@ all_count p ms =
 
 -- ---- by the outcome
 
--- a message has so many routes at most
+-- a message has at most this many routes
 abbrev pub HasFew : ℕ → Outcome → Type 0
 HasFew most (outcome.Took (message.Update u) notes) = (a : Bool) → length (routes_of a u) ≤ most
 HasFew most (outcome.Took (message.Open o) notes) = Unit {0}

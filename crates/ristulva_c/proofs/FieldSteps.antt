@@ -1,11 +1,11 @@
--- Fields in a list of the caller's.
+-- Fields in the caller's list.
 use Rattle.ristulva_c.proofs.Below.{◌≡◌, ℕ, true, false, nat_le, ◌+◌, ◌≤◌, List, [], ◌∷◌, ◌++◌, length, map, drop, refl, sym, ap, ◌∙◌, arith, length-map, Context, Field, fields_of, Tiles}
 use Rattle.bgp_fields.proofs.Joined.{fields-octets}
 use Rattle.ristulva_c.specs.declared.fields.ToldField.{ToldField}
 use Rattle.ristulva_c.specs.declared.status.TheConstants.{OK, ROOM}
 use Rattle.ristulva_c.specs.Prelude.{field_told, IsFilled}
 
--- ---- how many there are
+-- ---- their number
 
 tiles_count : (from to : ℕ) (fs : List Field) → Tiles from to fs → from + length fs ≤ to
 tiles_count from to [] t = omega (arith, t)

@@ -1,13 +1,13 @@
 -- Where the attributes of a field lie in it, and in a message.
 use Rattle.ristulva_c.proofs.Below.{◌≡◌, ℕ, ◌+◌, ◌-◌, ◌≤◌, Bool, true, false, cond, List, [], ◌∷◌, ◌++◌, length, take, drop, Some, None, append_assoc, refl, sym, ap, ◌∙◌, arith, find, drop_at, take_at, drop-take, take-take, length-append, drop-drop, Row, TlvValue, PlacedTlv, IsTlv, one_tlv, tlvs_of, placed_from, placed_tlvs, Splits-pieces, IsTlv-reads}
 
--- an attribute's value lies there in octets, behind what is in front of it
+-- an attribute's value is at its offset in octets, after its header
 pub record LiesAt (b : List ℕ) (p : PlacedTlv) : Type 0 where
   pub longer : length p.tlv.value ≤ length p.tlv.whole
   pub within : p.at + length p.tlv.whole ≤ length b
   pub value : take (length p.tlv.value) (drop (p.at + (length p.tlv.whole - length p.tlv.value)) b) ≡ p.tlv.value
 
--- one that octets have there
+-- an attribute at this offset of octets
 one_lies : (b post front : List ℕ) (at : ℕ) (t : TlvValue) → IsTlv t front → drop at b ≡ front ++ post → at + length (front ++ post) ≤ length b → LiesAt b (record { at = at; tlv = t })
 one_lies b post front at t is there room =
     let head : List ℕ = t.flags ∷ t.kind ∷ is.size in

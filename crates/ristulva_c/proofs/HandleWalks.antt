@@ -72,7 +72,7 @@ module _ {M : Type 1} {𝓤 : Ura M} (𝓛 : Logic 𝓤) (𝓣 : Tables 𝓤 �
       sets ! (agg ! (and_then ! (get ! refl) (no_more !))) refl (tt, (tt, tt)) $ returns ! (look_at ! 0 refl) $ free_all ! refl $
       by ! (ends (block_ptr b o) u)))))
 
-  -- and the other way round
+  -- and out of it
   abbrev pub Gives : Type 1
   Gives = (v : D (E R laws)) (b o : ℕ) → ent 𝓤 (sem 𝓛 (box_owns chunk R (block_ptr b o) v.value)) (sem 𝓛 (fsep (part_at (Boxed (E R laws)) full_share v.value b o) (token (E R laws).al v.alloc (bare (τ (E R laws))) (block_ptr b o))))
 

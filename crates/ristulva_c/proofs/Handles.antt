@@ -2,7 +2,7 @@
 --     E                         a box in the heap
 --     handle_in, handle_out     a handle by value is [what it owns]
 --     either_owned              the two cases of what it owns
---     owned_keyless             what it owns says the same to every thread
+--     owned_keyless             what it owns is the same for every thread
 use mathlib.Core.Path.{◌≡◌, refl, subst}
 use mathlib.Core.List.{List, [], ◌∷◌, ◌++◌}
 use Prim.Native.Nat.{ℕ}

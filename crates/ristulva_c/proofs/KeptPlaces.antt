@@ -18,18 +18,18 @@ repeated-none : (kind : ℕ) → kept_by (repeated kind) ≡ []
 repeated-none kind = repeated-by (carries_routes kind)
 
 module _ (ctx : Context) (nlri : Bool) where
-  -- what one attribute comes to, where its type was seen before or not
+  -- the judgement of one attribute, where its type was seen before or not
   abbrev answer : Bool → PlacedTlv → Judged
   answer seen p = cond seen (repeated p.tlv.kind) (judgement ctx nlri p.tlv)
 
   module _ (kind : ℕ) where
-    -- the attribute of the type that octets have first is kept as this
+    -- the first attribute of the type is kept as this
     pub record IsFirst (x : Attr) (ps : List PlacedTlv) : Type 0 where
       pub place : PlacedTlv
       pub first : find (λ q. eqb q.tlv.kind kind) ps ≡ Some place
       pub keeps : judgement ctx nlri place.tlv ≡ judged.Keep x
 
-    -- an attribute of another type isn't taken
+    -- an attribute of another type isn't kept
     other_judged : (p : PlacedTlv) (j : Judged) → judgement ctx nlri p.tlv ≡ j → eqb p.tlv.kind kind ≡ false → first_known (kept_by j) kind ≡ None
     other_judged p (judged.Keep x) is other =
         ap (λ (t : Bool). cond t (Some x) None) (and_right (not (is_opaque x)) (eqb (type_of x) kind) (ap (λ (k : ℕ). eqb k kind) (kept-type ctx nlri p.tlv x is) ∙ other))
@@ -41,7 +41,7 @@ module _ (ctx : Context) (nlri : Bool) where
     other_none p true other = ap (λ (xs : List Attr). first_known xs kind) (repeated-none p.tlv.kind)
     other_none p false other = other_judged p (judgement ctx nlri p.tlv) refl other
 
-    -- behind the first of the type none is taken
+    -- after the first of the type none is kept
     none_by : (p : PlacedTlv) (seen : ℕ → Bool) (h : Bool) → eqb p.tlv.kind kind ≡ h → seen kind ≡ true → first_known (kept_by (answer (seen p.tlv.kind) p)) kind ≡ None
     none_by p seen true e old =
         ap (λ (s : Bool). first_known (kept_by (answer s p)) kind) (ap seen (eqb-true p.tlv.kind kind e) ∙ old) ∙ ap (λ (xs : List Attr). first_known xs kind) (repeated-none p.tlv.kind)
@@ -55,7 +55,7 @@ module _ (ctx : Context) (nlri : Bool) where
         ∙ ap (λ (o : Option Attr). option_or o (first_known rest kind)) (none_by p seen (eqb p.tlv.kind kind) refl old)
         ∙ later_none (also p.tlv.kind seen) ps (or_right (eqb kind p.tlv.kind) (seen kind) old)
 
-    -- what is taken of it, and nothing where there is none of the type
+    -- what is kept of it, and nothing where there is none of the type
     abbrev pub taken_of : Option PlacedTlv → Option Attr
     taken_of None = None
     taken_of (Some q) = first_known (kept_by (judgement ctx nlri q.tlv)) kind
@@ -87,7 +87,7 @@ module _ (ctx : Context) (nlri : Bool) where
         ap (λ (xs : List Attr). first_known xs kind) (with_cut-kept (marks_behind ctx nlri none_of_them (placed_tlvs field)) (length field - length (tlvs_of field).1) (tlvs_of field).1)
         ∙ slot_behind none_of_them (placed_tlvs field) refl
 
-    -- what is taken of it is what its judgement keeps
+    -- what is kept of it is what its judgement keeps
     this_one : (x y : Attr) (t : Bool) → cond t (Some y) None ≡ Some x → y ≡ x
     this_one x y true e = cc
     this_one x y false e = absurd cc
@@ -110,7 +110,7 @@ module _ (ctx : Context) (nlri : Bool) where
     pub value_is : (x : Attr) (ps : List PlacedTlv) (f : IsFirst x ps) → (row_at ctx nlri f.place.tlv kind).value ≡ x
     value_is x ps f = row_value f.place x (eqb-true f.place.tlv.kind kind (find-passes (λ q. eqb q.tlv.kind kind) ps f.place f.first)) f.keeps
 
--- ---- the slots whose places are told
+-- ---- the slots whose offsets are reported
 
 -- the first attribute of a type, of which this holds
 pub record Holds (kind : ℕ) (p : Parts) (P : PlacedTlv → Type 0) : Type 0 where

@@ -9,7 +9,7 @@ use Rattle.bgp_clean.specs.Prelude.{Seen, none_seen, goes_on, seen_behind, under
 use Rattle.ristulva_c.specs.Prelude.{note_told, is_left_out}
 use Rattle.ristulva_c.proofs.NoteCounts.{few_view_marks}
 
--- each note is told
+-- each note is reported
 pub all_told : (notes : List Note) → length (map note_told notes) ≡ length notes
 all_told notes = length-map notes note_told
 
@@ -46,7 +46,7 @@ module _ (drops : ℕ → Bool) where
   opaque-count [] = refl
   opaque-count (x ∷ xs) = opaque-by x xs (opaque-count xs)
 
-  -- those that are kept and left out are as many as stand in their order
+  -- the number of those that are kept and left out is that of those in their order
   pub kept_left_out : (kept : List Attr) → length (filter (is_left_out drops) kept) ≡ length (filter test (attrs_of kept).others)
   kept_left_out kept =
       omega (arith, opaque-count kept, rising-count (flat_map as_opaque kept) [], ap (λ (os : List Opaque). length (filter test os)) (others_of-kept kept))
@@ -69,7 +69,7 @@ kept-few : (ms : List Mark) → length (kept_of ms) ≤ length ms
 kept-few [] = omega arith
 kept-few (m ∷ ms) = omega (arith, one_kept m.judged, kept-few ms, length-append (kept_by m.judged) (kept_of ms))
 
--- few are
+-- their number is bounded
 pub few_left_out : (drops : ℕ → Bool) (v : UpdateView) → length (filter (is_left_out drops) (kept_of (view_marks v))) ≤ 1358
 few_left_out drops v = omega (arith, filter-few (is_left_out drops) (kept_of (view_marks v)), kept-few (view_marks v), few_view_marks v)
 
@@ -106,11 +106,11 @@ fewer-behind : (seen : Seen) (caps : List Capability) → length (understood_beh
 fewer-behind seen [] = omega arith
 fewer-behind seen (c ∷ caps) = fewer-by (goes_on seen c) c (understood_behind (seen_behind seen c) caps) caps (fewer-behind (seen_behind seen c) caps)
 
--- no more capabilities go on than there are
+-- no more capabilities are passed on than there are
 pub fewer : (caps : List Capability) → length (understood caps) ≤ length caps
 fewer caps = fewer-behind none_seen caps
 
--- ---- how many capabilities there are
+-- ---- the number of capabilities
 
 row-few : {A : Type 0} (R : A → List ℕ → Type 0) → ((v : A) (b : List ℕ) → R v b → 0 < length b) → (vs : List A) (b : List ℕ) → Row R vs b → length vs ≤ length b
 row-few R some [] b row = omega arith

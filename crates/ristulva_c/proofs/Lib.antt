@@ -1,4 +1,4 @@
--- Lemmas on what is told in numbers.
+-- Lemmas on what is reported in numbers.
 pub mod Below
 pub mod Wanted
 pub mod PrefixSteps

@@ -1,4 +1,4 @@
--- The place of a note as it is told.
+-- The octets of a note, as reported.
 use Rattle.ristulva_c.proofs.Below.{◌≡◌, ℕ, ◌+◌, ◌-◌, ◌<◌, ◌≤◌, ◌||◌, ◌==◌, Bool, true, false, List, length, drop, Option, None, Some, refl, sym, arith, nat_lt, nat_le, if◌then◌else◌, eqb-true, le-ltb, lt-leb, and_right, length-drop, Why, Note, Parts, parts_of, attributes_at, attribute_place, is_attribute, note_place, note_place_in, says_missing}
 use Rattle.bgp_attr.specs.declared.why.Why.TheVariants as why
 use Rattle.bgp_update.proofs.PartLengths.{parts_within}
@@ -8,7 +8,7 @@ use Rattle.ristulva_c.specs.Prelude.{noted_place, note_told, number_of_why}
 abbrev note_at : ℕ → ℕ → Why → Note
 note_at at kind w = record { at = at; kind = kind; why = w }
 
--- ---- no place
+-- ---- no octets
 
 -- one that isn't within the attributes has none
 outside : (n : Note) (p : Parts) → is_attribute p n.at ≡ false → note_place_in n (Some p) ≡ None
@@ -31,7 +31,7 @@ far_in b n (Some p) found short far =
     let out : nat_lt n.at (attributes_at p + length p.attributes) ≡ false = le-ltb n.at (attributes_at p + length p.attributes) (omega (arith, parts_within b p found short, far)) in
     outside n p (and_right (nat_le (attributes_at p) n.at) (nat_lt n.at (attributes_at p + length p.attributes)) out)
 
--- nor has one behind all octets of a message
+-- nor has one after all octets of a message
 far_none : (octets : List ℕ) (n : Note) → length octets ≤ 4096 → 4077 < n.at → note_place (drop 19 octets) n ≡ None
 far_none octets n short far = far_in (drop 19 octets) n (parts_of (drop 19 octets)) refl (omega (arith, length-drop 19 octets, short)) far
 
@@ -45,7 +45,7 @@ far_noted octets told short far = by ((told.why == 14) || nat_lt told.at 19)
     by true = refl
     by false = sym (far_none octets note short (omega (arith, far)))
 
--- ---- of each note it is the note's
+-- ---- for each note they are the note's
 
 missing_none : (n : Note) (o : Option Parts) → says_missing n.why ≡ true → note_place_in n o ≡ None
 missing_none n None is = refl

@@ -1,4 +1,4 @@
--- Notes in a list of the caller's.
+-- Notes in the caller's list.
 use Rattle.ristulva_c.proofs.Below.{◌≡◌, ℕ, suc, ◌+◌, ◌<◌, ◌≤◌, List, [], ◌∷◌, ◌++◌, length, map, set, refl, sym, ap, ◌∙◌, arith, length-map, length_push, map-append, append_assoc, length-append, Note}
 use Rattle.ristulva_c.specs.declared.notes.ToldNote.{ToldNote}
 use Rattle.ristulva_c.specs.Prelude.{note_told, listed}
@@ -8,21 +8,21 @@ length-listed [] places = refl
 length-listed (n ∷ ns) [] = refl
 length-listed (n ∷ ns) (old ∷ places) = ap suc (length-listed ns places)
 
--- one more goes into the next place
+-- one more is written at the next index
 pub one_listed : (ns places : List ToldNote) (n : ToldNote) → length ns < length places → set (listed ns places) (length ns) n ≡ listed (ns ++ n ∷ []) places
 one_listed [] [] n there = absurd (omega arith)
 one_listed [] (old ∷ places) n there = refl
 one_listed (m ∷ ns) [] n there = absurd (omega arith)
 one_listed (m ∷ ns) (old ∷ places) n there = ap (λ (l : List ToldNote). m ∷ l) (one_listed ns places n (omega arith))
 
--- where there is none, the list stays as it is
+-- where there is none, the list is unchanged
 pub none_listed : (ns places : List ToldNote) (n : ToldNote) → length places ≤ length ns → listed (ns ++ n ∷ []) places ≡ listed ns places
 none_listed [] [] n full = refl
 none_listed [] (old ∷ places) n full = absurd (omega arith)
 none_listed (m ∷ ns) [] n full = refl
 none_listed (m ∷ ns) (old ∷ places) n full = ap (λ (l : List ToldNote). m ∷ l) (none_listed ns places n (omega arith))
 
--- a note is put behind so many others
+-- a note is written after `count` others
 pub put_one : (list before places : List ToldNote) (count : ℕ) (n : ToldNote) → length before ≡ count → list ≡ listed before places → count < length list → set list count n ≡ listed (before ++ n ∷ []) places
 put_one list before places count n counted is there =
     let room : length before < length places = omega (arith, counted, ap length is, length-listed before places, there) in
@@ -35,14 +35,14 @@ put_none list before places count n counted is full =
 
 -- ---- the notes so far
 
--- these are listed, and those that are left are the others
+-- these are listed, and the others remain
 pub record IsSoFar (all left : List Note) (count : ℕ) (list places : List ToldNote) : Type 0 where
   pub done : List Note
   pub whole : all ≡ done ++ left
   pub counted : length done ≡ count
   pub lists : list ≡ listed (map note_told done) places
 
--- what putting one more promises
+-- what writing one more ensures
 abbrev pub Puts : ℕ → Note → List ToldNote → List ToldNote → Type 0
 Puts count note list new = (before places : List ToldNote) → length before ≡ count → list ≡ listed before places → new ≡ listed (before ++ note_told note ∷ []) places
 

@@ -10,7 +10,7 @@ rows_count message segment (s ∷ later) =
     length-append (map (number_row message segment s.kind) s.numbers) (segment_rows message (segment + 1) later)
     ∙ ap₂ ◌+◌ (length-map s.numbers (number_row message segment s.kind)) (rows_count message (segment + 1) later)
 
--- the rows of some segments are written, and the others are left
+-- the rows of some segments are written, and the others remain
 pub record IsPathWriting (message : ℕ) (all left : List Segment) (segment from to : ℕ) (before list : List NumberRow) : Type 0 where
   pub done : List NumberRow
   pub whole : segment_rows message 0 all ≡ done ++ segment_rows message segment left

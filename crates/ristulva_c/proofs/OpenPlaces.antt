@@ -5,6 +5,8 @@ use Rattle.bgp_open.proofs.CapabilityIters.{none_begun}
 use Rattle.bgp_update.specs.declared.verdict.Verdict.TheVariants as verdict
 use Rattle.ristulva_c.specs.Prelude.{accepted, accepted_in, read_in, Gives, between}
 use Rattle.ristulva_c.specs.Opens.{cursor_of}
+use Rattle.bgp_frame.specs.Kind.{plain}
+use Rattle.bgp_frame.specs.steps.AreTypes.{plain-are}
 
 -- the outcome of a message, in any context
 verdict_none : (v : Verdict) → accepted (of_verdict v) ≡ None
@@ -40,7 +42,7 @@ is_read kind.Update body o e = absurd cc
 is_read kind.Notification body o e = absurd cc
 is_read kind.Keepalive body o e = absurd cc
 
--- the parameters of a message of so many octets
+-- the parameters of a message of length n
 parameters_at : (octets : List ℕ) (n : ℕ) (m : Message) → n ≤ length octets → 29 ≤ n → IsFrame m (take n octets) → between octets 29 n ≡ drop 10 m.body
 parameters_at octets n m within long frame =
     let head = header m.kind (19 + length m.body) in
@@ -49,7 +51,7 @@ parameters_at octets n m within long frame =
     ∙ ap (λ (k : ℕ). drop 29 (take k octets)) (sym many)
     ∙ ap (drop 29) frame.octets
     ∙ sym (drop-drop 10 19 (head ++ m.body))
-    ∙ ap (drop 10) (drop_at head m.body 19 (sym (length-header m.kind (19 + length m.body))))
+    ∙ ap (drop 10) (drop_at head m.body 19 (sym (length-header plain plain-are m.kind (19 + length m.body))))
 
 pub gives : (octets : List ℕ) (n : ℕ) (m : Message) (o : Open) → n ≤ length octets → IsFrame m (take n octets) → accepted_in m.kind m.body ≡ Some o
     → Gives octets o.caps (cursor_of n)

@@ -1,4 +1,4 @@
--- What comes of a message, case by case.
+-- The outcome of a message, case by case.
 use Rattle.ristulva_c.proofs.Below.{◌≡◌, ℕ, Bool, true, false, cond, List, [], Option, Some, None, refl, Result, Ok, Err, Kind, Notification, Context, OpenFault, Open, open_notification, reading_of, malformed, marks_of, is_reachable, notes_of, routes_of, Parts, parts_of, update_of, is_withdrawn, of_parts, reset_of, unless_reset, without_reset, Outcome, of_open_fault, of_reading, of_verdict, out_of}
 use Rattle.bgp_frame.specs.declared.kind.Kind.TheVariants as kind
 use Rattle.bgp_update.specs.declared.verdict.Verdict.TheVariants as verdict

@@ -1,4 +1,4 @@
--- What a decoder gives of the octets that it holds, in pieces.
+-- What a decoder gives of its held octets, in pieces.
 use Rattle.ristulva_c.proofs.Below.{◌≡◌, ℕ, ◌≤◌, ◌⊎◌, Bool, false, not, nat_le, if◌then◌else◌, List, [], ◌++◌, length, take, Result, Ok, Err, Some, refl, sym, ap, subst, ◌∙◌, arith, inl, inr, both_ways, le-leb, take_all, AreOctets, HeadFault, Step, Message, Waits, ShowsFront, ShowsStep, Stops, Takes, IsContent, Outcome, Decoding, decoder, given_by, IsFed, IsPulled, holding, IsLook, Stops-wanted}
 use Rattle.bgp_frame.proofs.Holding.{front_held}
 use Rattle.bgp_msg.specs.declared.look.Look.TheVariants as look
@@ -6,22 +6,24 @@ use Rattle.bgp_frame.proofs.Hearings.{content_is, content_stops, counts_nothing,
 use Rattle.bgp_msg.proofs.Pulls.{is_hearer, one_out, pulls_as_fed}
 use Rattle.ristulva_c.specs.declared.status.TheConstants.{OK, ROOM}
 use Rattle.ristulva_c.specs.Prelude.{GivesHeld}
+use Rattle.bgp_frame.specs.Kind.{plain}
+use Rattle.bgp_frame.specs.steps.AreTypes.{plain-are}
 
 -- ---- what is held is one message, or one fault
 
 module _ (d : Decoding) (o : Outcome) (gives : GivesHeld d o) where
   stops : Stops d.held
-  stops = content_stops gives.0 d.held gives.1.0
+  stops = content_stops plain plain-are gives.0 d.held gives.1.0
 
   pub not_more : Waits d.held → ⊥
-  not_more waits = not_whole d.held waits stops
+  not_more waits = not_whole plain plain-are d.held waits stops
 
   pub shows : AreOctets d.held → (s : Step) → ShowsFront d.held s → ShowsStep d.held s
-  shows are s front = let long = Stops-wanted d.held stops in front_held d.held s (record { octets = are; within = omega (arith, long.1) }) front
+  shows are s front = let long = Stops-wanted plain plain-are d.held stops in front_held plain plain-are d.held s (record { octets = are; within = omega (arith, long.1) }) front
 
   pub outcome_of : (what : Result Message HeadFault) → IsContent what d.held → o ≡ (given_by d what).1
   outcome_of what is =
-      let same : Some gives.0 ≡ Some what = sym (content_is gives.0 d.held gives.1.0) ∙ content_is what d.held is in
+      let same : Some gives.0 ≡ Some what = sym (content_is plain plain-are gives.0 d.held gives.1.0) ∙ content_is plain plain-are what d.held is in
       gives.1.1 ∙ ap (λ (w : Result Message HeadFault). (given_by d w).1) (let one : gives.0 ≡ what = cc in one)
 
 -- ---- how much of the piece is fed
@@ -47,22 +49,22 @@ module _ (d : Decoding) (piece : List ℕ) (n k : ℕ) (o : Outcome) (new : Deco
       in_context (Ok m) is = is
       in_context (Err f) is = is
 
--- ---- what waits behind a feed
+-- ---- what is incomplete after a feed
 
 pub waits : (d : Decoding) → d.stopped ≡ false → IsLook d [] look.Feed → Waits d.held
 waits d going looks =
-    let pulled = looks 0 d (counts_nothing (not d.stopped) d.held, sym (took_none decoder is_hearer d [] 0 refl)) in
+    let pulled = looks 0 d (counts_nothing plain plain-are (not d.stopped) d.held, sym (took_none decoder is_hearer d [] 0 refl)) in
     pull_waits decoder is_hearer d [] 0 d (λ over. absurd (both_ways (not d.stopped) over (ap not going))) pulled
 
 -- the whole piece is fed where what is held then is less than a message
 pub all_fed : (d : Decoding) (piece : List ℕ) (n : ℕ) (new : Decoding) → d.stopped ≡ false → IsFed d piece n new → Waits new.held → (n ≡ length piece) × (d.held ++ take n piece ≡ d.held ++ piece)
 all_fed d piece n new going fed waits =
-    let counts = taken_up (not d.stopped) d.held piece n (ap not going) fed.0 in
+    let counts = taken_up plain plain-are (not d.stopped) d.held piece n (ap not going) fed.0 in
     let all = whole_of counts.0 (subst Waits (ap (λ (x : Decoding). x.held) fed.1) waits) in
     (all, ap (λ (x : List ℕ). d.held ++ x) (take_all n piece (omega (arith, all))))
   where
     whole_of : Takes d.held piece n → Waits (d.held ++ take n piece) → n ≡ length piece
-    whole_of takes less = elim takes.all_or_stops [ inl all ↦ all | inr stops ↦ absurd (not_whole (d.held ++ take n piece) less stops) ]
+    whole_of takes less = elim takes.all_or_stops [ inl all ↦ all | inr stops ↦ absurd (not_whole plain plain-are (d.held ++ take n piece) less stops) ]
 
 -- ---- room
 

@@ -1,4 +1,4 @@
--- The octets of a set, one after another.
+-- The octets of a set, in order.
 use Rattle.ristulva_c.proofs.Below.{◌≡◌, ℕ, ◌+◌, ◌≤◌, Bool, true, false, not, List, [], ◌∷◌, ◌++◌, length, refl, sym, ap, ◌∙◌, arith, filter, range_with_len, map-id, rising, append-nil, length-filter_both, filter_of_map_range_with_len_more, length-range_with_len}
 use mathlib.Core.Bool.{cond}
 
@@ -21,7 +21,7 @@ none_more p n missing = more p n ∙ ap (λ (t : Bool). below p n ++ cond t (n �
 pub few : (p : ℕ → Bool) (n : ℕ) → length (below p n) ≤ n
 few p n = omega (arith, length-filter_both p (λ k. not (p k)) (λ k. refl) (range_with_len 0 n), length-range_with_len 0 n)
 
--- all of them are there at 256
+-- at 256 all of them are included
 pub all_there : (p : ℕ → Bool) (n : ℕ) (octets : List ℕ) → octets ≡ below p n → n ≡ 256 → octets ≡ rising p
 unfolding rising
 all_there p n octets is last = is ∙ ap (below p) last

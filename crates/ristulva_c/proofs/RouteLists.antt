@@ -20,6 +20,8 @@ use Rattle.ristulva_c.proofs.KeptPlaces.{slot_first, row_value, taken_of}
 use Rattle.ristulva_c.proofs.Outcomes.{by_kind}
 use Rattle.ristulva_c.proofs.PartPlaces.{lie}
 use Rattle.ristulva_c.proofs.RouteSpans.{behind_in}
+use Rattle.bgp_frame.specs.Kind.{plain as plain_types}
+use Rattle.bgp_frame.specs.steps.AreTypes.{plain-are}
 
 is_one : (b : Bool) → is_set (flag_of b) ≡ b
 is_one true = refl
@@ -50,7 +52,7 @@ plain octets o routes none =
       loses_ip6 = refl;
     }
 
--- ---- the cursor that is made
+-- ---- the new cursor
 
 abbrev of_kind : ℕ → List ℕ → Option PlacedTlv
 of_kind k b = find (λ q. eqb q.tlv.kind k) (placed_tlvs b)
@@ -83,7 +85,7 @@ cursor_is ctx a p w n b un re gone come l an lo is_w is_n is_b is_un is_re is_go
       loses_ip6 = all_lost i;
     }
 
--- a header with a fault has none
+-- a header with a fault has no routes
 pub begins_fault : (octets : List ℕ) (fault : HeadFault) → Begins octets (of_fault fault) false (no_routes false)
 begins_fault octets fault = plain octets (of_fault fault) (nothing_left octets false) refl
 
@@ -169,7 +171,7 @@ module _ (octets : List ℕ) (p : Parts) (lies : Lie octets p (parts_told (Some 
     nothing : (a : Bool) (routes : List RouteValue) → routes ≡ [] → Gives a routes no_prefixes
     nothing a routes none = record { gives = none_routes a octets ∙ sym none; cursor = none_lies octets }
 
-    -- what the slot takes of it
+    -- what the slot keeps of it
     reach_judged : (a : Bool) (q : PlacedTlv) → LiesAt p.attributes q → q.tlv.kind ≡ MP_REACH_NLRI → (j : Judged) → judgement ctx nlri q.tlv ≡ j
         → Gives a (reached_routes a (first_known (kept_by j) MP_REACH_NLRI >>= as_mp_reach)) (prefixes_by field q j)
     reach_judged a q at is (judged.Keep (attr.MpReach r)) keeps =
@@ -375,7 +377,7 @@ room_in octets n m are frame p is =
       ap length (parts-body m.body p octets_are is).octets ∙ length-body p.withdrawn p.attributes p.nlri,
       ap length frame.octets,
       length-append (header m.kind (19 + length m.body)) m.body,
-      length-header m.kind (19 + length m.body),
+      length-header plain_types plain-are m.kind (19 + length m.body),
       length-take n octets,
     )
 

@@ -20,7 +20,7 @@ by_paths message verdict afi (Some paths) p = refl
 by_paths message verdict afi None p = refl
 
 module _ (message verdict : ℕ) (paths : Option Paths) where
-  -- the row of routes that are announced, or withdrawn too
+  -- the row of routes that are announced, or, in a withdrawal, withdrawn
   abbrev come_row : Bool → RouteRow
   come_row true = field_row message verdict paths
   come_row false = field_row message verdict None
@@ -88,7 +88,7 @@ few_by most at parts (view.Reset v) h = omega arith
 pub few_rows : (body : List ℕ) (at : ℕ) (parts : Option Parts) (v : OutcomeView) → AreOctets body → IsViewed body (outcome_value v) → length (rows_seen at parts v) ≤ length body - 4
 few_rows body at parts v are w = few_by (length body - 4) at parts v (subst (HasFew (length body - 4)) (sym w.outcome) (has_few w.ctx body are w.kind))
 
--- ---- how many there are
+-- ---- their number
 
 reached_count : (x y : RouteRow) (r : Option MpReach) → length (reached_rows x r) ≡ length (reached_rows y r)
 reached_count x y None = refl
@@ -115,7 +115,7 @@ update_count away come u =
       length-map u.nlri (with_prefix come IPV4),
     )
 
--- whatever they have besides a prefix
+-- whatever their other fields
 same_count : (a b c d : RouteRow) (u : Update) → length (update_rows a b u) ≡ length (update_rows c d u)
 same_count a b c d u = omega (arith, update_count a b u, update_count c d u, unreached_count a c u.attrs.mp_unreach, reached_count b d u.attrs.mp_reach)
 

@@ -18,7 +18,7 @@ module _ (v : List ℕ) (unicast : safi_of v ≡ UNICAST) where
   unreach (inl is) = rw (eq-eqb (safi_of v) UNICAST unicast, eq-eqb (afi_of v) IPV4 is) refl
   unreach (inr is) = rw (eq-eqb (safi_of v) UNICAST unicast, ne_eqb (afi_of v) IPV4 (other (afi_of v) is), eq-eqb (afi_of v) IPV6 is) refl
 
--- the octets of a span behind its first n
+-- the octets of a span after its first n
 pub behind_in : (octets : List ℕ) (span : Span) (n : ℕ) → n ≤ span.len → between octets (span.at + n) (span.at + span.len) ≡ drop n (octets_in span octets)
 behind_in octets span n le =
     sym (

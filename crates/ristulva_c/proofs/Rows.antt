@@ -1,4 +1,4 @@
--- Rows in a list of the caller's, one behind another.
+-- Rows in the caller's list, in sequence.
 use Rattle.ristulva_c.proofs.Below.{◌≡◌, ℕ, ◌+◌, ◌<◌, ◌≤◌, List, [], ◌∷◌, ◌++◌, length, map, drop, set, refl, sym, ap, subst, ◌∙◌, arith, length_push, set-append_right, append-nil, append_assoc, drop-drop, length-append, length-drop}
 use Rattle.ristulva_c.specs.Prelude.{Holds, Adds}
 
@@ -26,7 +26,7 @@ hold_next rows count list places x h room = record {
   room = omega (arith, room);
 }
 
--- ---- written one behind another
+-- ---- written in sequence
 
 pub adds_none : {A : Type 0} (from : ℕ) (list : List A) → Adds [] from from list list
 adds_none from list first places h = subst (λ (r : List _). Holds r from list places) (sym (append-nil first)) h
@@ -35,7 +35,7 @@ pub adds_join : {A : Type 0} (xs ys : List A) (a b c : ℕ) (l m n : List A) →
 adds_join xs ys a b c l m n before behind first places h =
     subst (λ (r : List _). Holds r c n places) (append_assoc first xs ys) (behind (first ++ xs) places (before first places h))
 
--- of some rows those that are done are written, and the others are left
+-- of some rows the first are written, and the others remain
 pub record IsWriting {A : Type 0} (all left : List A) (from to : ℕ) (before list : List A) : Type 0 where
   pub done : List A
   pub whole : all ≡ done ++ left
@@ -45,7 +45,7 @@ pub record IsWriting {A : Type 0} (all left : List A) (from to : ℕ) (before li
 pub writes_none : {A : Type 0} (all : List A) (from : ℕ) (list : List A) → IsWriting all all from from list list
 writes_none all from list = record { done = []; whole = refl; counted = omega arith; adds = adds_none from list }
 
--- the next place is there
+-- there is a next place
 pub place_left : {A : Type 0} (all left later : List A) (from to : ℕ) (before list : List A) (row : A)
     → IsWriting all left from to before list → left ≡ row ∷ later → from + length all ≤ length list → to < length list
 place_left all left later from to before list row w is room = omega (arith, w.counted, ap length w.whole, length-append w.done left, ap length is, room)

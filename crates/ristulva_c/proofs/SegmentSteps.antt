@@ -1,4 +1,4 @@
--- From a segment to those behind it.
+-- From a segment to those after it.
 use Rattle.ristulva_c.proofs.Below.{◌≡◌, ℕ, ◌+◌, ◌-◌, ◌≤◌, List, [], ◌∷◌, ◌++◌, length, take, drop, Some, sym, ap, ◌∙◌, arith, PathForm, IsNumber, one_number, numbers_of, WireSegment, IsSegment, one_segment, segments_of, IsNumber-reads, IsSegment-reads}
 use Rattle.bgp_wire.proofs.Behinds.{pieces-whole}
 use Rattle.ristulva_c.specs.declared.segments.Segments.{Segments}
@@ -28,7 +28,7 @@ module _ (form : PathForm) (b field : List ℕ) (old : Segments) (s : WireSegmen
   numbers : numbers_of form.wide row ≡ s.numbers
   numbers = ap (λ (q : List ℕ × List ℕ). q.0) (pieces-whole ℕ (IsNumber form.wide) (one_number form.wide) (IsNumber-reads form.wide) s.numbers row found.2.counted.spelled)
 
-  -- what is left behind a segment, by the cursor
+  -- what remains after a segment, by the cursor
   pub segments_behind : (segments_of form (between b old.at old.end)).0
       ≡ record { code = s.code; numbers = numbers_of form.wide (take (old.end - length rest - (old.at + 2)) (drop (old.at + 2) b)) } ∷ (segments_of form (between b (old.end - length rest) old.end)).0
   segments_behind =

@@ -1,4 +1,4 @@
--- From an attribute to those behind it.
+-- From an attribute to those after it.
 use Rattle.ristulva_c.proofs.Below.{◌≡◌, ℕ, ◌+◌, ◌-◌, ◌≤◌, List, [], ◌∷◌, ◌++◌, length, take, drop, Option, Some, None, option_map, refl, sym, ap, ap₂, ◌∙◌, arith, length-append, TlvValue, IsTlv, one_tlv, placed_from, tlv_at, no_more, IsTlv-reads}
 use Rattle.ristulva_c.specs.declared.attributes.Attributes.{Attributes}
 use Rattle.ristulva_c.specs.declared.attributes.Attribute.{Attribute}
@@ -58,7 +58,7 @@ module _ (b field : List ℕ) (old : Attributes) (flags kind : ℕ) (whole value
   abbrev told : Attribute
   told = record { at = old.at; flags = flags; kind = kind; value = record { at = old.at + length whole - length value; len = length value } }
 
-  -- what is left behind an attribute, by the cursor
+  -- what remains after an attribute, by the cursor
   pub attributes_behind : attributes_left b old ≡ attribute_told b told ∷ attributes_left b (record { at = old.at + length whole; end = old.end })
   attributes_behind =
       let all : between b old.at (old.at + length whole - length value + length value) ≡ whole =

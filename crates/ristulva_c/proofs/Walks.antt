@@ -1,4 +1,4 @@
--- What the walks by hand of the handles name.
+-- The names for the handles' walks by hand.
 pub use lib.Dec.{T}
 pub use seplogic.Ra.Ura.{Ura}
 pub use base.Fml.{ftrue, fsep, flft}

@@ -40,16 +40,16 @@ abbrev pub rest_of : List machine.Action → List machine.Action
 rest_of [] = []
 rest_of (action ∷ later) = later
 
--- so many places of a list: an action after another, and none in those behind the last
+-- the first n elements of a list: the actions in order, and `NOTHING` after the last
 abbrev pub places : ℕ → List machine.Action → List Action
 places zero actions = []
 places (suc n) actions = first_told actions ∷ places n (rest_of actions)
 
--- how many places are taken
+-- the number of actions
 abbrev pub count_of : List machine.Action → ℕ
 count_of actions = if nat_lt 5 (length actions) then 5 else length actions
 
--- the first five actions: a session never wants more at a time, which is the room that its sets have
+-- the first five actions: a session never wants more at a time, which is the capacity of its sets
 abbrev pub actions_told : List machine.Action → Actions
 actions_told actions = record { count = count_of actions; list = places 5 actions }
 

@@ -1,6 +1,6 @@
 -- What two OPENs agree on.
 use Rattle.std.specs.Prelude.{◌≡◌, ℕ, List, Option, None, Some, Result, Ok, Err}
-use Rattle.bgp_frame.specs.declared.step.Step.{Step}
+use Rattle.bgp_frame.specs.Step.{Step}
 use Rattle.bgp_frame.specs.Prelude.{ShowsFront}
 use Rattle.bgp_frame.specs.declared.step.Step.TheVariants as step
 use Rattle.bgp_open.specs.declared.context.Context.{Context}
@@ -11,7 +11,7 @@ use Rattle.ristulva_c.specs.declared.status.TheConstants.{INCOMPLETE, OK, REFUSE
 use Rattle.ristulva_c.specs.Agreed.{context_said}
 use Rattle.ristulva_c.specs.Opens.{accepted_in}
 
--- the OPEN that is accepted, or what is answered where there is none
+-- the accepted OPEN, or the status where there is none
 abbrev pub or_refused : Option Open → Result Open ℕ
 or_refused (Some o) = Ok o
 or_refused None = Err REFUSED
@@ -22,7 +22,7 @@ open_at step.More = Err INCOMPLETE
 open_at (step.Frame f) = or_refused (accepted_in f.kind f.body.now)
 open_at (step.Fault fault) = Err REFUSED
 
--- what a call has: its status, and what stands in the caller's places before and behind it
+-- what a call has: its status, and the caller's memory before and after it
 pub record Agreeing : Type 0 where
   pub status : ℕ
   pub before : SessionContext
@@ -40,7 +40,7 @@ pub record IsAgreed (ctx : Context) (a : Agreeing) : Type 0 where
   pub context : a.behind ≡ context_said ctx
   pub hold : a.hold_behind ≡ ctx.hold
 
--- what both agree on; where one of them is no OPEN, nothing is changed, and the first of them says why
+-- what both agree on; where one of them isn't an OPEN, nothing is changed, and the status is that of the first that isn't
 abbrev pub AgreesBy : Result Open ℕ → Result Open ℕ → Agreeing → Type 0
 AgreesBy (Ok ours) (Ok theirs) a = IsAgreed (agreed_context ours theirs) a
 AgreesBy (Ok ours) (Err answer) a = IsLeft answer a

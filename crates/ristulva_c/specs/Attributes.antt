@@ -1,4 +1,4 @@
--- Attributes one after another, by a cursor.
+-- Attributes in sequence, by a cursor.
 use Rattle.std.specs.Prelude.{◌+◌, ◌≤◌, ℕ, List, length}
 use Rattle.bgp_attr.specs.Prelude.{PlacedTlv, tlvs_of, placed_from}
 use Rattle.ristulva_c.specs.declared.attributes.Attributes.{Attributes}
@@ -11,11 +11,11 @@ pub record IsAttributes (octets : List ℕ) (cursor : Attributes) : Type 0 where
   pub in_order : cursor.at ≤ cursor.end
   pub within : cursor.end ≤ length octets
 
--- the attributes still to come, with their offsets in the octets
+-- the remaining attributes, with their offsets in the octets
 abbrev pub attributes_left : List ℕ → Attributes → List PlacedTlv
 attributes_left octets cursor = placed_from cursor.at (tlvs_of (between octets cursor.at cursor.end)).0
 
--- the attribute that is told: its octets reach from its flags to the end of its value
+-- the reported attribute: its octets reach from its flags to the end of its value
 abbrev pub attribute_told : List ℕ → Attribute → PlacedTlv
 attribute_told octets out = record {
   at = out.at;

@@ -1,7 +1,7 @@
--- Batches: what messages that stand one behind another give, in rows of a list of the caller's.
+-- Batches: messages in sequence, as rows in the caller's list.
 use Rattle.std.specs.Prelude.{◌≡◌, ◌+◌, ◌-◌, ◌<◌, ◌≤◌, ◌==◌, ◌⊎◌, ℕ, true, false, List, [], ◌∷◌, ◌++◌, length, drop, Option, if◌then◌else◌}
-use Rattle.bgp_frame.specs.declared.step.Frame.{Frame}
-use Rattle.bgp_frame.specs.declared.step.Step.{Step}
+use Rattle.bgp_frame.specs.Step.{Frame}
+use Rattle.bgp_frame.specs.Step.{Step}
 use Rattle.bgp_frame.specs.Prelude.{ShowsFront}
 use Rattle.bgp_frame.specs.declared.step.Step.TheVariants as step
 use Rattle.bgp_open.specs.declared.context.Context.{Context}
@@ -10,7 +10,7 @@ use Rattle.bgp_msg.specs.declared.outcome.Outcome.{Outcome}
 use Rattle.bgp_msg.specs.Prelude.{is_reset, out_of}
 use Rattle.ristulva_c.specs.declared.status.TheConstants.{INCOMPLETE, OK, REFUSED, ROOM}
 
--- which rows a message gives: by where it begins, by its parts, and by its outcome
+-- which rows a message gives: by its offset, its parts, and its outcome
 abbrev pub Giving : Type 0 → Type 1
 Giving Row = ℕ → Option Parts → Outcome → List Row → Type 0
 
@@ -18,9 +18,9 @@ Giving Row = ℕ → Option Parts → Outcome → List Row → Type 0
 abbrev pub outcome_in : Context → Frame → Outcome
 outcome_in ctx f = out_of ctx (record { kind = f.kind; body = f.body.now })
 
--- ---- the messages that are taken
+-- ---- the accepted messages
 
--- a message that is taken: how many octets it has, and its rows
+-- an accepted message: its length, and its rows
 pub record Taken (Row : Type 0) : Type 0 where
   pub len : ℕ
   pub rows : List Row
@@ -33,12 +33,12 @@ pub record IsTaken {Row : Type 0} (gives : Giving Row) (ctx : Context) (octets :
   pub goes_on : is_reset (outcome_in ctx frame) ≡ false
   pub rows : gives at (parts_of frame.body.now) (outcome_in ctx frame) t.rows
 
--- each begins where the one before it ends
+-- each begins where the previous one ends
 abbrev pub Stand : {Row : Type 0} → Giving Row → Context → List ℕ → ℕ → List (Taken Row) → Type 0
 Stand gives ctx octets at [] = Unit {0}
 Stand gives ctx octets at (t ∷ later) = IsTaken gives ctx octets at t × Stand gives ctx octets (at + t.len) later
 
--- how many octets they have, and the rows of all, in order
+-- their total length, and the rows of all, in order
 abbrev pub octets_taken : {Row : Type 0} → List (Taken Row) → ℕ
 octets_taken [] = 0
 octets_taken (t ∷ later) = t.len + octets_taken later
@@ -49,8 +49,8 @@ rows_taken (t ∷ later) = t.rows ++ rows_taken later
 
 -- ---- what ends a batch
 
--- the message that stands behind those that are taken doesn't end the session, and has more rows than there is room for: no more than 4073, which any
--- list has room for
+-- the message after the accepted ones doesn't end the session, and has more rows than there is room for: no more than 4073, for which any list has
+-- room
 pub record IsFull {Row : Type 0} (gives : Giving Row) (ctx : Context) (at room : ℕ) (f : Frame) : Type 0 where
   pub goes_on : is_reset (outcome_in ctx f) ≡ false
   pub rows : List Row
@@ -58,7 +58,7 @@ pub record IsFull {Row : Type 0} (gives : Giving Row) (ctx : Context) (at room :
   pub more : room < length rows
   pub few : length rows ≤ 4073
 
--- by what stands behind those that are taken: less than a message, perhaps nothing; a message that ends the session, or whose rows have no room; or a
+-- by what follows the accepted messages: less than a message, perhaps nothing; a message that ends the session, or whose rows have no room; or a
 -- header with a fault
 abbrev pub EndsAt : {Row : Type 0} → Giving Row → Context → List ℕ → ℕ → ℕ → Step → ℕ → Type 0
 EndsAt gives ctx octets at room step.More status = status ≡ (if at == length octets then OK else INCOMPLETE)
@@ -68,7 +68,7 @@ EndsAt gives ctx octets at room (step.Fault fault) status = status ≡ REFUSED
 
 -- ---- a call
 
--- what a call has: its status, and what stands in the caller's places before and behind it
+-- what a call has: its status, and the caller's memory before and after it
 pub record Batching (Row : Type 0) : Type 0 where
   pub status : ℕ
   pub before : List Row
@@ -85,7 +85,7 @@ pub record IsLeft {Row : Type 0} (answer : ℕ) (b : Batching Row) : Type 0 wher
   pub written : b.written_behind ≡ b.written_before
   pub taken : b.taken_behind ≡ b.taken_before
 
--- the rows of the messages that are taken stand in the list's first places, and behind them what stood there
+-- the rows of the accepted messages are the list's first elements, and the others are unchanged
 pub record TakesAll {Row : Type 0} (gives : Giving Row) (ctx : Context) (octets : List ℕ) (b : Batching Row) : Type 0 where
   pub messages : List (Taken Row)
   pub stand : Stand gives ctx octets 0 messages

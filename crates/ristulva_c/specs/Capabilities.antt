@@ -1,4 +1,4 @@
--- Capabilities of an OPEN one after another, by a cursor (RFC 5492, section 4).
+-- The capabilities of an OPEN in sequence, by a cursor (RFC 5492, section 4).
 use Rattle.std.specs.Prelude.{◌≡◌, ◌+◌, ◌-◌, ◌≤◌, ◌∷◌, ◌++◌, ℕ, List, length, Some}
 use Rattle.bgp_wire.specs.Prelude.{pieces}
 use Rattle.bgp_open.specs.declared.capability.Capability.{Capability}
@@ -14,12 +14,12 @@ pub record IsCapabilities (octets : List ℕ) (cursor : Capabilities) : Type 0 w
   pub before_end : cursor.stop ≤ cursor.end
   pub within : cursor.end ≤ length octets
 
--- the capabilities still to come: those of the parameter that was begun, and those of the parameters behind it
+-- the remaining capabilities: those of the parameter that was begun, and those of the parameters after it
 abbrev pub capabilities_left : List ℕ → Capabilities → List Capability
 capabilities_left octets cursor = (pieces one_capability (between octets cursor.at cursor.stop)).0 ++ capabilities_of (between octets cursor.stop cursor.end)
 
--- what is told is the first capability of those that were left: its code and the length of its value stand in front of the value, and the
--- cursor behind it
+-- the reported capability is the first of the remaining ones: its code and the length of its value precede the value, and the
+-- cursor is after it
 pub record IsGiven (octets : List ℕ) (old new : Capabilities) (out : OpenCapability) : Type 0 where
   pub capability : Capability
   pub means : capability_of out.code (octets_in out.value octets) ≡ Some capability

@@ -1,8 +1,8 @@
--- What is handed on of a message, in numbers.
+-- What is passed on of a message, in numbers.
 use Rattle.std.specs.Prelude.{◌≡◌, ◌-◌, ℕ, Bool, List, [], ◌∷◌, length, None, Result, Ok, Err}
 use Rattle.std.specs.List.{filter}
 use Rattle.bgp_wire.specs.Prelude.{also, none_of_them}
-use Rattle.bgp_frame.specs.declared.step.Step.{Step}
+use Rattle.bgp_frame.specs.Step.{Step}
 use Rattle.bgp_frame.specs.Prelude.{ShowsFront, message_in}
 use Rattle.bgp_frame.specs.declared.step.Step.TheVariants as step
 use Rattle.bgp_open.specs.declared.context.Context.{Context}
@@ -46,7 +46,7 @@ left_out_in drops (outcome.Took message.Keepalive notes) = 0
 left_out_in drops (outcome.Withdraw routes notes) = 0
 left_out_in drops (outcome.Reset n) = 0
 
--- the capabilities of an OPEN, but for those that go on
+-- the capabilities of an OPEN, but for those that are passed on
 abbrev pub caps_left_out_in : Outcome → ℕ
 caps_left_out_in (outcome.Took (message.Open o) notes) = length o.caps - length (understood o.caps)
 caps_left_out_in (outcome.Took (message.Update u) notes) = 0
@@ -55,9 +55,9 @@ caps_left_out_in (outcome.Took message.Keepalive notes) = 0
 caps_left_out_in (outcome.Withdraw routes notes) = 0
 caps_left_out_in (outcome.Reset n) = 0
 
--- ---- what is told of a message of so many octets
+-- ---- what is reported of a message, by its length
 
--- of one that is handed on
+-- of one that is passed on
 abbrev pub handed_told : ℕ → (ℕ → Bool) → Outcome → ToldCleaned
 handed_told len drops o = record {
   ends = HANDED_ON;
@@ -98,19 +98,19 @@ end_told len verdict why = record {
   capabilities = 0;
 }
 
--- by its outcome, and what is handed on of it
+-- by its outcome, and what is passed on of it
 abbrev pub cleaned_told : ℕ → (ℕ → Bool) → Outcome → Result (List Message) CleanFault → ToldCleaned
 cleaned_told len drops o (Ok ns) = handed_told len drops o
 cleaned_told len drops o (Err why) = end_told len (number_of o) why
 
--- the whole messages that are handed on; nothing where the stream ends
+-- the whole messages that are passed on; nothing where the stream ends
 abbrev pub handed_octets : Context → Result (List Message) CleanFault → List ℕ
 handed_octets ctx (Ok ns) = octets_handed ctx ns
 handed_octets ctx (Err why) = []
 
 -- ---- the call
 
--- what a call has: its status, and what stands in the caller's places before and behind it
+-- what a call has: its status, and the caller's memory before and after it
 pub record Cleaning : Type 0 where
   pub writing : Writing
   pub before : ToldCleaned
@@ -121,7 +121,7 @@ pub record IsLeft (answer : ℕ) (c : Cleaning) : Type 0 where
   pub writing : text.IsLeft answer c.writing
   pub out : c.behind ≡ c.before
 
--- these octets stand at the buffer's front where there is room; what is told, and their number, are there either way
+-- these octets are written to the buffer where there is room; the report, and their length, are written either way
 pub record IsHanded (octets : List ℕ) (told : ToldCleaned) (c : Cleaning) : Type 0 where
   pub writing : IsWritten octets c.writing
   pub out : c.behind ≡ told
@@ -133,14 +133,14 @@ Hands ctx drops first (step.Frame f) c = IsHanded (handed_octets ctx (cleaned ct
     (cleaned_told f.len drops (out_of ctx (message_in f)) (cleaned ctx drops (refuses_in ctx no_limits) first (message_in f))) c
 Hands ctx drops first (step.Fault f) c = IsHanded [] (cleaned_told 0 drops (of_fault f) (cleaned_outcome drops (refuses_in ctx no_limits) first None (of_fault f))) c
 
--- what is handed on of a message is accepted in the same context without a note, is handed on as it is, has no message that is longer, and teaches a
--- hearer what that does
+-- what is passed on of a message is accepted in the same context without a note, is passed on unchanged when cleaned again, has no message that is
+-- longer, and a receiver learns from it what RFC 7606 has the receiver of the message learn
 abbrev pub HandsClean : Context → (ℕ → Bool) → Bool → Step → Type 0
 HandsClean ctx drops first step.More = Unit {0}
 HandsClean ctx drops first (step.Frame f) = (ns : List Message) → cleaned ctx drops (refuses_in ctx no_limits) first (message_in f) ≡ Ok ns → IsClean ctx drops (refuses_in ctx no_limits) first (message_in f) ns
 HandsClean ctx drops first (step.Fault f) = Unit {0}
 
--- what is handed on of the message that the octets begin with is written, or why the stream ends before it is told
+-- what is passed on of the message that the octets begin with is written, or why the stream ends before it is reported
 pub record IsHandedOn (ctx : Context) (drops : ℕ → Bool) (first : Bool) (octets : List ℕ) (c : Cleaning) : Type 0 where
   pub found : Step
   pub shows : ShowsFront octets found

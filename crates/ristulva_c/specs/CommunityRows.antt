@@ -11,7 +11,7 @@ use Rattle.ristulva_c.specs.Facts.{attrs_in}
 
 -- ---- communities
 
--- the row of a community, of the message that begins at an offset
+-- the row of a community, by the offset of its message
 abbrev pub community_row : ℕ → ℕ → CommunityRow
 community_row message value = record { message = message; value = value; reserved = 0 }
 

@@ -1,4 +1,4 @@
--- What a speaker is to be set to, as C says it.
+-- The settings of a speaker, in C's form.
 use Rattle.bgp_open.specs.Prelude.{Settings}
 use Rattle.ristulva_c.specs.declared.config.SpeakerConfig.{SpeakerConfig}
 use Rattle.ristulva_c.specs.Context.{is_set}

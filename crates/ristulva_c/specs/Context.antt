@@ -1,4 +1,4 @@
--- What a session agreed on, as C says it.
+-- What a session agreed on, in C's form.
 use Rattle.std.specs.Prelude.{ℕ, Bool, not, ◌==◌}
 use Rattle.bgp_open.specs.declared.context.Context.{Context}
 use Rattle.ristulva_c.specs.declared.context.SessionContext.{SessionContext}

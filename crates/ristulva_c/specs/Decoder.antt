@@ -1,7 +1,7 @@
--- What the calls on a decoder do: a stream comes in pieces, and each message is told as `ristulva_judge` tells it.
+-- What the calls on a decoder do: a stream arrives in pieces, and each message is reported as by `ristulva_judge`.
 use Rattle.std.specs.Prelude.{◌≡◌, ◌<◌, ◌≤◌, ◌⊎◌, ℕ, true, false, List, ◌++◌, length, take, Option, None, Some, Result}
 use Rattle.bgp_frame.specs.declared.fault.HeadFault.{HeadFault}
-use Rattle.bgp_frame.specs.declared.step.Step.{Step}
+use Rattle.bgp_frame.specs.Step.{Step}
 use Rattle.bgp_frame.specs.Prelude.{Message, Waits, ShowsStep, IsContent}
 use Rattle.bgp_frame.specs.declared.step.Step.TheVariants as step
 use Rattle.bgp_open.specs.declared.context.Context.{Context}
@@ -13,7 +13,7 @@ use Rattle.ristulva_c.specs.Copied.{copied}
 use Rattle.ristulva_c.specs.Judge as judge
 use Rattle.ristulva_c.specs.Judge.{Answers, Judging, PartsLie}
 
--- a decoder is made where the handle has none, unless memory ran out
+-- a decoder is made where the handle has none, unless an allocation failed
 abbrev pub IsMade : Context → Option Decoding → ℕ → Option Decoding → Type 0
 IsMade ctx (Some old) status new = (status ≡ IN_USE) × (new ≡ Some old)
 IsMade ctx None status new = ((status ≡ OK) × (new ≡ Some (fresh ctx))) ⊎ ((status ≡ MEMORY) × (new ≡ None))
@@ -22,7 +22,7 @@ abbrev pub IsFreed : Option Decoding → ℕ → Option Decoding → Type 0
 IsFreed None status new = (status ≡ NO_SESSION) × (new ≡ None)
 IsFreed (Some old) status new = (status ≡ OK) × (new ≡ None)
 
--- how many octets are held is told; where there is no decoder, nothing is written
+-- the number of octets held is written; where there is no decoder, nothing is
 abbrev pub IsHeldTold : Option Decoding → ℕ → ℕ → ℕ → Type 0
 IsHeldTold None status before behind = (status ≡ NO_SESSION) × (behind ≡ before)
 IsHeldTold (Some d) status before behind = (status ≡ OK) × (behind ≡ length d.held)
@@ -35,7 +35,7 @@ IsOutcome ctx step.More o = ⊥
 IsOutcome ctx (step.Frame f) o = o ≡ out_of ctx (record { kind = f.kind; body = f.body.now })
 IsOutcome ctx (step.Fault fault) o = o ≡ of_fault fault
 
--- octets are a whole message or a header with a fault, and no more; it is told as `ristulva_judge` tells it, and the octets are copied
+-- octets are a whole message or a header with a fault, and no more; it is reported as by `ristulva_judge`, and the octets are copied
 pub record IsWholeTold (ctx : Context) (octets : List ℕ) (o : Outcome) (j : Judging) (before behind : List ℕ) : Type 0 where
   pub found : Step
   pub shows : ShowsStep octets found
@@ -51,7 +51,7 @@ GivesHeld d o = (what : Result Message HeadFault) × (IsContent what d.held × (
 
 -- ---- what is pulled from a piece
 
--- what a call has: its status, and what stands in the caller's places before and behind it
+-- what a call has: its status, and the caller's memory before and after it
 pub record Pulling : Type 0 where
   pub judging : Judging
   pub old : Option Decoding
@@ -68,12 +68,12 @@ pub record IsLeft (answer : ℕ) (p : Pulling) : Type 0 where
   pub message : p.message_behind ≡ p.message_before
   pub taken : p.taken_behind ≡ p.taken_before
 
--- a reset was told: nothing behind it is read
+-- a reset was reported: nothing after it is read
 pub record IsOver (d : Decoding) (p : Pulling) : Type 0 where
   pub stopped : d.stopped ≡ true
   pub left : IsLeft STATE p
 
--- the whole piece is taken, and what is held then is less than a message
+-- the whole piece is consumed, and what is held then is less than a message
 pub record Awaits (d : Decoding) (piece : List ℕ) (p : Pulling) : Type 0 where
   pub going : d.stopped ≡ false
   pub waits : Waits (d.held ++ piece)
@@ -82,7 +82,7 @@ pub record Awaits (d : Decoding) (piece : List ℕ) (p : Pulling) : Type 0 where
   pub message : p.message_behind ≡ p.message_before
   pub taken : p.taken_behind ≡ length piece
 
--- so many octets of the piece are fed as make a message whole, or a header with a fault: that is told, and the decoder goes on behind it
+-- octets of the piece are fed up to the end of a message, or of a header with a fault: that is reported, and the decoder continues after it
 pub record Gives (d : Decoding) (piece : List ℕ) (p : Pulling) : Type 0 where
   pub going : d.stopped ≡ false
   pub fed : IsFed d piece p.taken_behind (holding d (d.held ++ take p.taken_behind piece))
@@ -94,7 +94,7 @@ abbrev pub Pulls : Option Decoding → List ℕ → Pulling → Type 0
 Pulls None piece p = IsLeft NO_SESSION p
 Pulls (Some d) piece p = IsOver d p ⊎ (Awaits d piece p ⊎ Gives d piece p)
 
--- both buffers have room for whatever comes, or nothing is done
+-- both buffers have room for any outcome, or nothing is done
 abbrev pub PullsWithRoom : Option Decoding → List ℕ → Pulling → Type 0
 PullsWithRoom old piece p =
     ((4096 ≤ length p.message_before) × ((4075 ≤ length p.judging.info_before) × Pulls old piece p))
@@ -102,14 +102,14 @@ PullsWithRoom old piece p =
 
 -- ---- what a look finds of it
 
--- what stands in the caller's places for an outcome and for its message
+-- the caller's memory for an outcome and for its message
 pub record Places : Type 0 where
   pub judging : Judging
   pub message_before : List ℕ
   pub message_behind : List ℕ
 
--- where nothing is found, nothing is changed, and the piece is to be fed; else so many octets of it are fed, and what is held then is told, and where
--- the decoder goes on
+-- where nothing is found, nothing is changed, and the piece is to be fed; else n octets of it are fed, and what is held then is reported, with where
+-- the decoder continues
 abbrev pub IsFoundTold : Decoding → List ℕ → Option (ℕ × Going) → Places → Type 0
 IsFoundTold d piece None p = IsLook d piece look.Feed × (judge.IsLeft OK p.judging × (p.message_behind ≡ p.message_before))
 IsFoundTold d piece (Some (n, next)) p = IsFed d piece n (holding d (d.held ++ take n piece))

@@ -1,4 +1,4 @@
--- The one written form of an UPDATE that is handed in in some spelling.
+-- The one written form of an UPDATE that is given in any form.
 use Rattle.std.specs.Prelude.{◌≡◌, ◌<◌, ◌≤◌, ◌⊎◌, not, ◌&&◌, false, ℕ, List, [], ◌∷◌, length, Option, Some, None, option_map, if◌then◌else◌}
 use Rattle.bgp_open.specs.declared.context.Context.{Context}
 use Rattle.bgp_update.specs.declared.note.Note.{Note}
@@ -38,11 +38,11 @@ encoded_of ctx u = Some (canonical ctx (message.Update u))
 abbrev pub short_of : Context → Update → Option (List ℕ)
 short_of ctx u = if is_too_long ctx (message.Update u) then None else Some (canonical ctx (message.Update u))
 
--- the same as a speaker with AS numbers of two octets is told it (RFC 6793)
+-- the same as sent to a speaker with 2-octet AS numbers (RFC 6793)
 abbrev pub narrowed_of : Context → Update → Option (List ℕ)
 narrowed_of ctx u = short_of (with_as4 false ctx) (narrowed_update u)
 
--- what the code calls it
+-- the code's value for it
 abbrev pub IsCoded : Coded → Option (Option (List ℕ)) → Type 0
 IsCoded coded.Refused found = found ≡ None
 IsCoded coded.Memory found = (form : Option (List ℕ)) × (found ≡ Some form)
@@ -54,12 +54,12 @@ abbrev pub WritesForm : Option (List ℕ) → Writing → Type 0
 WritesForm None w = IsLeft UNWRITABLE w
 WritesForm (Some octets) w = IsWritten octets w
 
--- by what comes of a body: it isn't accepted whole; or it is, and then alone memory can run out
+-- by the result of a body: it isn't accepted whole; or it is, and only then can an allocation fail
 abbrev pub Writes : Option (Option (List ℕ)) → Writing → Type 0
 Writes None w = IsLeft REFUSED w
 Writes (Some form) w = WritesForm form w ⊎ IsLeft MEMORY w
 
--- a body is too long to be one, or this comes of it
+-- a body is too long to be one, or has this result
 abbrev pub Comes : List ℕ → Option (Option (List ℕ)) → Writing → Type 0
 Comes body found w = ((4077 < length body) × IsLeft RANGE w) ⊎ ((length body ≤ 4077) × Writes found w)
 

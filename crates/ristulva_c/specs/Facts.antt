@@ -1,8 +1,8 @@
--- What everybody asks of an UPDATE, of the attributes that are kept, in numbers.
+-- Common attributes of an UPDATE, of those that are kept, in numbers.
 use Rattle.std.specs.Prelude.{◌≡◌, ◌++◌, ℕ, true, List, [], ◌∷◌, length, Option, Some, None, is_some, unwrap_or}
 use Rattle.bgp_numbers.specs.declared.afi.TheConstants.{IPV4, IPV6}
 use Rattle.bgp_numbers.specs.declared.attribute.TheConstants.{AS_PATH, AS4_PATH, COMMUNITIES, LARGE_COMMUNITY}
-use Rattle.bgp_frame.specs.declared.step.Step.{Step}
+use Rattle.bgp_frame.specs.Step.{Step}
 use Rattle.bgp_frame.specs.Prelude.{ShowsFront}
 use Rattle.bgp_frame.specs.declared.step.Step.TheVariants as step
 use Rattle.bgp_open.specs.declared.context.Context.{Context}
@@ -33,7 +33,7 @@ use Rattle.ristulva_c.specs.Opens.{flag_of}
 use Rattle.ristulva_c.specs.Places.{kept_at}
 use Rattle.ristulva_c.specs.Span.{octets_in}
 
--- ---- the AS that a route came from
+-- ---- the origin AS of a route
 
 -- the last of some numbers
 abbrev pub last_number : List AsNumber → Option ℕ
@@ -66,7 +66,7 @@ twelve_zeros = 0 ∷ 0 ∷ 0 ∷ 0 ∷ 0 ∷ 0 ∷ 0 ∷ 0 ∷ 0 ∷ 0 ∷ 0 ∷
 abbrev pub no_address : List ℕ
 no_address = four_zeros ++ twelve_zeros
 
--- the family of MP_REACH_NLRI, 0 where there is none, and its next hops: an IPv4 address stands in the first four octets
+-- the family of MP_REACH_NLRI, 0 where there is none, and its next hops: an IPv4 address is in the first four octets
 abbrev pub mp_afi : Option MpReach → ℕ
 mp_afi None = 0
 mp_afi (Some (reach.Ip4 hop routes)) = IPV4
@@ -92,7 +92,7 @@ hops_told a = record {
   has_link_local = flag_of (is_some (mp_link a.mp_reach));
 }
 
--- ---- paths and communities: where the values lie of those that are kept
+-- ---- paths and communities: the offsets of the values that are kept
 
 abbrev pub paths_told : Option Parts → Attrs → Paths
 paths_told parts a = record {
@@ -122,8 +122,8 @@ abbrev pub origin_number : Option Origin → ℕ
 origin_number None = 0
 origin_number (Some o) = origin_code o
 
--- what is told of the attributes that are kept; the aggregator is what AGGREGATOR and AS4_AGGREGATOR give together, and the AS that the route came from
--- is that of the path that AS_PATH and AS4_PATH give together (RFC 6793, section 4.2.3)
+-- what is reported of the attributes that are kept; the aggregator is what AGGREGATOR and AS4_AGGREGATOR give together, and the origin AS is that of
+-- the path that AS_PATH and AS4_PATH give together (RFC 6793, section 4.2.3)
 abbrev pub facts_told : Option Parts → Attrs → Facts
 facts_told parts a = record {
   hops = hops_told a;
@@ -155,7 +155,7 @@ attrs_in (outcome.Reset n) = None
 abbrev pub IsKept : ℕ → ℕ → Facts → Facts → Type 0
 IsKept answer status before behind = (status ≡ answer) × (behind ≡ before)
 
--- the facts of an UPDATE that is accepted are told, and else nothing
+-- the facts of an UPDATE that is accepted are written, and else nothing
 abbrev pub TellsFacts : Option Parts → Option Attrs → ℕ → Facts → Facts → Type 0
 TellsFacts parts (Some a) status before behind = (status ≡ OK) × (behind ≡ facts_told parts a)
 TellsFacts parts None status before behind = IsKept REFUSED status before behind
@@ -166,7 +166,7 @@ Tells ctx step.More status before behind = IsKept INCOMPLETE status before behin
 Tells ctx (step.Frame f) status before behind = TellsFacts (parts_of f.body.now) (attrs_in (out_of ctx (record { kind = f.kind; body = f.body.now }))) status before behind
 Tells ctx (step.Fault fault) status before behind = IsKept REFUSED status before behind
 
--- the octets at the offsets that are told hold the paths and communities that are kept
+-- the octets at the reported offsets are the paths and communities that are kept
 pub record PathsLie (ctx : Context) (octets : List ℕ) (a : Attrs) (told : Paths) : Type 0 where
   pub as_path : (p : AsPath) → a.as_path ≡ Some p → path_of (as_path_form ctx) (octets_in told.as_path octets) ≡ p
   pub as4_path : (p : As4Path) → a.as4_path ≡ Some p → path_of as4_path_form (octets_in told.as4_path octets) ≡ p.path
@@ -179,7 +179,7 @@ AllLie ctx octets (step.Frame f) =
 AllLie ctx octets step.More = Unit {0}
 AllLie ctx octets (step.Fault fault) = Unit {0}
 
--- the facts of the UPDATE that octets begin with are told
+-- the facts of the UPDATE that octets begin with are written
 pub record AreFacts (ctx : Context) (octets : List ℕ) (status : ℕ) (before behind : Facts) : Type 0 where
   pub found : Step
   pub shows : ShowsFront octets found

@@ -1,6 +1,6 @@
--- The place of the fault of a message, and of what a note on it is about.
+-- The octets of the fault of a message, and those that a note on it is about.
 use Rattle.std.specs.Prelude.{◌≡◌, ◌==◌, ◌-◌, ◌||◌, ℕ, List, drop, take, nat_lt, Option, None, Some, if◌then◌else◌}
-use Rattle.bgp_frame.specs.declared.step.Step.{Step}
+use Rattle.bgp_frame.specs.Step.{Step}
 use Rattle.bgp_frame.specs.Prelude.{message_in, ShowsFront}
 use Rattle.bgp_frame.specs.declared.step.Step.TheVariants as step
 use Rattle.bgp_open.specs.declared.context.Context.{Context}
@@ -12,12 +12,12 @@ use Rattle.ristulva_c.specs.declared.span.Span.{Span}
 use Rattle.ristulva_c.specs.declared.status.TheConstants.{INCOMPLETE, OK}
 use Rattle.ristulva_c.specs.Span.{no_span}
 
--- a place as it is told: none is a span of no octets
+-- octets as reported: where there are none, an empty span
 abbrev pub place_told : Option fields.Span → Span
 place_told None = no_span
 place_told (Some s) = record { at = s.at; len = s.len }
 
--- what a call has: its status, and what stands in the caller's place before and behind it
+-- what a call has: its status, and the caller's memory before and after it
 pub record Placing : Type 0 where
   pub status : ℕ
   pub before : Span
@@ -28,7 +28,7 @@ pub record IsLeft (answer : ℕ) (w : Placing) : Type 0 where
   pub status : w.status ≡ answer
   pub out : w.behind ≡ w.before
 
--- this place is told
+-- this span is written
 pub record IsTold (place : Option fields.Span) (w : Placing) : Type 0 where
   pub status : w.status ≡ OK
   pub out : w.behind ≡ place_told place
@@ -44,7 +44,7 @@ pub record IsFault (ctx : Context) (octets : List ℕ) (w : Placing) : Type 0 wh
   pub shows : ShowsFront octets found
   pub faults : Faults ctx octets found w
 
--- the octets of a whole message that a note on it is about, by the note as it is told: none where it says that an attribute is missing (14)
+-- the octets of a whole message that a note on it is about, by the note as reported: none where it says that an attribute is missing (14)
 abbrev pub noted_place : List ℕ → ToldNote → Option fields.Span
 noted_place octets told =
     if (told.why == 14) || nat_lt told.at 19 then None

@@ -53,7 +53,7 @@ number_of_kind field.ErrorSubcode = 42
 number_of_kind field.Data = 43
 number_of_kind field.Unread = 44
 
--- what a number stands for in rows of numbers: what its first row says, nothing where it has no row
+-- the meaning of a number in rows of numbers: that of its first row, nothing where it has no row
 abbrev pub kind_in : List (ℕ × FieldKind) → ℕ → Option FieldKind
 kind_in [] number = None
 kind_in (row ∷ rows) number = if row.0 == number then Some row.1 else kind_in rows number

@@ -1,6 +1,6 @@
 -- The fields of a message in numbers.
 use Rattle.std.specs.Prelude.{◌≡◌, ◌≤◌, ℕ, List, length, map, take, nat_le, Option, None, Some, if◌then◌else◌}
-use Rattle.bgp_frame.specs.declared.step.Step.{Step}
+use Rattle.bgp_frame.specs.Step.{Step}
 use Rattle.bgp_frame.specs.Prelude.{ShowsFront}
 use Rattle.bgp_frame.specs.declared.step.Step.TheVariants as step
 use Rattle.bgp_open.specs.declared.context.Context.{Context}
@@ -21,7 +21,7 @@ abbrev pub group_code : Option Group → ℕ
 group_code None = 0
 group_code (Some g) = g.code
 
--- a field as it is told
+-- a field as reported
 abbrev pub field_told : Field → ToldField
 field_told f = record { at = f.at; len = f.len; group = group_at f.group; kind = number_of_kind f.kind; code = group_code f.group }
 
@@ -29,7 +29,7 @@ field_told f = record { at = f.at; len = f.len; group = group_at f.group; kind =
 abbrev pub fields_told : Context → List ℕ → List ToldField
 fields_told ctx octets = map field_told (fields_of ctx octets)
 
--- what a call has: its status, and what stands in the caller's places before and behind it
+-- what a call has: its status, and the caller's memory before and after it
 pub record Filling : Type 0 where
   pub status : ℕ
   pub before : List ToldField
@@ -43,7 +43,7 @@ pub record IsLeft (answer : ℕ) (w : Filling) : Type 0 where
   pub list : w.behind ≡ w.before
   pub written : w.written_behind ≡ w.written_before
 
--- these fields stand in the list's first places, where it has room for all of them: else nothing is changed. A message has no more than it has octets
+-- these fields are the list's first elements, where it has room for all of them: else nothing is changed. A message has at most as many as octets
 pub record IsFilled (fields : List ToldField) (w : Filling) : Type 0 where
   pub status : w.status ≡ (if nat_le (length fields) (length w.before) then OK else ROOM)
   pub list : w.behind ≡ copied fields w.before

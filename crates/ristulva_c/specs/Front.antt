@@ -1,7 +1,7 @@
--- What stands at the front of octets, in numbers (RFC 4271, sections 4.1 and 6.1).
+-- What octets begin with, in numbers (RFC 4271, sections 4.1 and 6.1).
 use Rattle.std.specs.Prelude.{◌≡◌, List, ℕ}
 use Rattle.bgp_frame.specs.declared.fault.HeadFault.{HeadFault}
-use Rattle.bgp_frame.specs.declared.step.Step.{Step}
+use Rattle.bgp_frame.specs.Step.{Step}
 use Rattle.bgp_frame.specs.Prelude.{wanted, head_notification, code_of, ShowsFront}
 use Rattle.bgp_frame.specs.declared.fault.HeadFault.TheVariants as fault
 use Rattle.bgp_frame.specs.declared.step.Step.TheVariants as step
@@ -10,7 +10,7 @@ use Rattle.ristulva_c.specs.declared.front.TheConstants.{MORE, MESSAGE, FAULT}
 use Rattle.ristulva_c.specs.declared.span.Span.{Span}
 use Rattle.ristulva_c.specs.Span.{no_span}
 
--- where the field of a header lies that is at fault: the Length, or the Type; of a Marker none is told
+-- the span of the faulty field of a header: the Length, or the Type; for a Marker an empty one
 abbrev pub fault_span : HeadFault → Span
 fault_span fault.Marker = no_span
 fault_span (fault.Length n) = record { at = 16; len = 2 }
@@ -27,13 +27,13 @@ fault_told f = record {
   info = fault_span f;
 }
 
--- of less than a message, how many octets are wanted
+-- for less than a message, the number of octets wanted
 abbrev pub step_told : List ℕ → Step → ToldFront
 step_told octets step.More = record { what = MORE; kind = 0; code = 0; subcode = 0; len = wanted octets; info = no_span }
 step_told octets (step.Frame frame) = record { what = MESSAGE; kind = code_of frame.kind; code = 0; subcode = 0; len = frame.len; info = no_span }
 step_told octets (step.Fault f) = fault_told f
 
--- the numbers are those of what the octets begin with
+-- the numbers describe what the octets begin with
 pub record IsFound (octets : List ℕ) (told : ToldFront) : Type 0 where
   pub step : Step
   pub shows : ShowsFront octets step

@@ -50,7 +50,7 @@ came_told (came.Dropped kind) = record { what = CAME_DROPPED; kind = code_of kin
 came_told (came.HandedOn kind same) = record { what = CAME_HANDED_ON; kind = code_of kind; same = one_if same; code = 0; subcode = 0 }
 came_told (came.Answered code subcode) = record { what = CAME_ANSWERED; kind = 0; same = 0; code = code; subcode = subcode }
 
--- what the owner does for a side
+-- what the owner is to do for a side
 abbrev pub asks_told : Side → Guarding → Asks
 asks_told side g = record {
   listens = one_if (listens side g);
@@ -61,7 +61,8 @@ asks_told side g = record {
 
 -- ---- a guard is made, and freed
 
--- unrecognised attributes are left out but for these types, no announcement is refused, and the inner speaker's routes stay inside where that is asked for
+-- unrecognised attributes are left out but for these types, no announcement is refused, and the inner speaker's routes stay inside where that is
+-- requested
 pub record IsSetTo (pass : List ℕ) (inside : ℕ) (rules : Rules) : Type 0 where
   pub drops : has_octet rules.drops ≡ all_but (types_in pass)
   pub limits : rules.limits ≡ no_limits
@@ -71,7 +72,7 @@ pub record IsSetTo (pass : List ℕ) (inside : ℕ) (rules : Rules) : Type 0 whe
 abbrev pub IsNew : List ℕ → ℕ → Option Guarding → Type 0
 IsNew pass one_way new = (rules : Rules) × (IsSetTo pass one_way rules × (new ≡ Some (fresh rules)))
 
--- a guard is made where the handle has none, unless memory ran out
+-- a guard is made where the handle has none, unless an allocation failed
 abbrev pub IsMade : List ℕ → ℕ → Option Guarding → ℕ → Option Guarding → Type 0
 IsMade pass one_way (Some old) status new = (status ≡ IN_USE) × (new ≡ Some old)
 IsMade pass one_way None status new = ((status ≡ OK) × IsNew pass one_way new) ⊎ ((status ≡ MEMORY) × (new ≡ None))
@@ -82,7 +83,7 @@ IsFreed (Some old) status new = (status ≡ OK) × (new ≡ None)
 
 -- ---- what happens without octets
 
--- a number that is none comes first; a guard goes on by what a side sees
+-- an invalid number is reported first; a guard continues by what a side sees
 abbrev pub GoesOn : Option Side → Option (Sight → Sight) → Option Guarding → ℕ → Option Guarding → Type 0
 GoesOn None rule old status new = (status ≡ RANGE) × (new ≡ old)
 GoesOn (Some side) None old status new = (status ≡ RANGE) × (new ≡ old)
@@ -98,14 +99,14 @@ abbrev pub IsStopped : Option Guarding → ℕ → Option Guarding → Type 0
 IsStopped None status new = (status ≡ NO_SESSION) × (new ≡ None)
 IsStopped (Some g) status new = (status ≡ OK) × (new ≡ Some (stopped g))
 
--- for how many seconds what is on the way to a side may stand still
+-- for how many seconds what is queued for a side may stay unsent
 abbrev pub TellsStall : Option Guarding → ℕ → ℕ → ℕ → Type 0
 TellsStall None status before behind = (status ≡ NO_SESSION) × (behind ≡ before)
 TellsStall (Some g) status before behind = (status ≡ OK) × (behind ≡ stall_seconds g)
 
--- ---- octets that come
+-- ---- received octets
 
--- what a call has: its status, and what stands in the caller's places before and behind it
+-- what a call has: its status, and the caller's memory before and after it
 pub record Hearing : Type 0 where
   pub status : ℕ
   pub old : Option Guarding
@@ -122,7 +123,7 @@ pub record IsLeft (answer : ℕ) (h : Hearing) : Type 0 where
   pub taken : h.taken_behind ≡ h.taken_before
   pub came : h.came_behind ≡ h.came_before
 
--- so many octets of the piece are taken, and what came of them is told
+-- n octets of the piece are consumed, and their result is reported
 pub record HearsOf (side : Side) (g : Guarding) (piece : List ℕ) (h : Hearing) : Type 0 where
   pub status : h.status ≡ OK
   pub behind : Guarding
@@ -136,14 +137,14 @@ GuardHears None old piece h = IsLeft RANGE h
 GuardHears (Some side) None piece h = IsLeft NO_SESSION h
 GuardHears (Some side) (Some g) piece h = HearsOf side g piece h
 
--- ---- what is asked and told
+-- ---- what is required and reported
 
 abbrev pub IsAsked : Option Side → Option Guarding → ℕ → Asks → Asks → Type 0
 IsAsked None old status before behind = (status ≡ RANGE) × (behind ≡ before)
 IsAsked (Some side) None status before behind = (status ≡ NO_SESSION) × (behind ≡ before)
 IsAsked (Some side) (Some g) status before behind = (status ≡ OK) × (behind ≡ asks_told side g)
 
--- of the octets that are on their way as many as there is room for stand at the buffer's front
+-- the first queued octets, up to the room of the buffer, are written to it
 pub record IsFrontOf (way : List ℕ) (w : Writing) : Type 0 where
   pub status : w.status ≡ OK
   pub buffer : w.behind ≡ copied (take (length w.before) way) w.before
@@ -154,7 +155,7 @@ ShowsWay None old w = text.IsLeft RANGE w
 ShowsWay (Some side) None w = text.IsLeft NO_SESSION w
 ShowsWay (Some side) (Some g) w = IsFrontOf (half side g).way w
 
--- what its OPEN said is told; before that was handed on, nothing is written
+-- what its OPEN said is written; before that was passed on, nothing is
 abbrev pub IsPeerTold : Option Side → Option Guarding → ℕ → ToldPeer → ToldPeer → Type 0
 IsPeerTold None old status before behind = (status ≡ RANGE) × (behind ≡ before)
 IsPeerTold (Some side) None status before behind = (status ≡ NO_SESSION) × (behind ≡ before)

@@ -1,4 +1,4 @@
--- What a session hears, in numbers, and what it does on it.
+-- What a session receives, in numbers, and what it does on it.
 use Rattle.std.specs.Prelude.{◌≡◌, ◌<◌, ◌≤◌, ◌⊎◌, ℕ, false, true, List, length, take, drop, Option, None, Some}
 use Rattle.bgp_frame.specs.declared.notification.Notification.{Notification}
 use Rattle.bgp_frame.specs.Prelude.{notification_of_view, short_value}
@@ -26,7 +26,7 @@ number_of_heard (heard.Notification n) = NOTIFICATION
 number_of_heard (heard.Reset n) = RESET
 number_of_heard (heard.Refused n) = RESET
 
--- the NOTIFICATION that came, or that ends the session; nothing where there is none
+-- the NOTIFICATION that was received, or that ends the session; nothing where there is none
 abbrev pub said_in : Heard → Notification
 said_in (heard.Notification n) = notification_of_view n
 said_in (heard.Reset n) = notification_of_view n
@@ -50,17 +50,17 @@ heard_told l octets = record {
 
 -- ---- what is done
 
--- what stands in the caller's place for what is heard
+-- the caller's memory for what is received
 pub record Place : Type 0 where
   pub heard_before : ToldHeard
   pub heard_behind : ToldHeard
 
--- nothing is heard, and nothing is changed
+-- nothing is received, and nothing is changed
 pub record IsUnheard (status : ℕ) (p : Place) (a : Answer) : Type 0 where
   pub left : IsLeft status a
   pub heard : p.heard_behind ≡ p.heard_before
 
--- the connection doesn't stand: no octets are taken
+-- the connection isn't up: no octets are accepted
 pub record IsDeaf (x : Machine) (p : Place) (a : Answer) : Type 0 where
   pub down : listens x.standing.state ≡ false
   pub unheard : IsUnheard STATE p a
@@ -71,7 +71,7 @@ pub record Awaits (x : Machine) (octets : List ℕ) (p : Place) (a : Answer) : T
   pub looks : IsLook x octets None
   pub unheard : IsUnheard INCOMPLETE p a
 
--- what a look finds is told and done, and the session goes on behind it
+-- what a look finds is reported and done, and the session continues after it
 pub record IsHeard (x : Machine) (octets : List ℕ) (p : Place) (a : Answer) : Type 0 where
   pub up : listens x.standing.state ≡ true
   pub found : Looked
@@ -79,7 +79,7 @@ pub record IsHeard (x : Machine) (octets : List ℕ) (p : Place) (a : Answer) : 
   pub heard : p.heard_behind ≡ heard_told found octets
   pub does : IsDone x.settings (step_of found).actions (gone x (step_of found).next) a
 
--- the same, before the session goes on there: with the status and the session behind it that follow then
+-- the same, before the session continues there: with the status and the session that follow then
 abbrev pub IsFoundTold : Machine → List ℕ → Option Going → Place → (ℕ → Machine → Answer) → Type 0
 IsFoundTold x octets None p answer = IsLook x octets None × IsUnheard INCOMPLETE p (answer INCOMPLETE x)
 IsFoundTold x octets (Some next) p answer = (next.from ≡ x) × (listens x.standing.state ≡ true → IsHeard x octets p (answer OK (gone x next.standing)))
@@ -88,6 +88,6 @@ abbrev pub SessionHears : Option Machine → List ℕ → Place → Answer → T
 SessionHears None octets p a = IsUnheard NO_SESSION p a
 SessionHears (Some x) octets p a = IsDeaf x p a ⊎ (Awaits x octets p a ⊎ IsHeard x octets p a)
 
--- of the octets no more than the longest message has are looked at; a buffer has room for each message that is sent, or nothing is done
+-- no more octets than the longest message has are read; a buffer has room for each message that is sent, or nothing is done
 abbrev pub HearsFirst : Option Machine → List ℕ → Place → Answer → Type 0
 HearsFirst old octets p a = ((4096 ≤ length a.message_before) × SessionHears old (take 4096 octets) p a) ⊎ ((length a.message_before < 4096) × IsUnheard ROOM p a)

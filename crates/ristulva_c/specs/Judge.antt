@@ -1,7 +1,7 @@
 -- The outcome of a message, in numbers.
 use Rattle.std.specs.Prelude.{◌≡◌, Some, ℕ, List, [], length, nat_le, None, if◌then◌else◌}
 use Rattle.bgp_frame.specs.declared.kind.Kind.{Kind}
-use Rattle.bgp_frame.specs.declared.step.Step.{Step}
+use Rattle.bgp_frame.specs.Step.{Step}
 use Rattle.bgp_frame.specs.Prelude.{code_of, ShowsFront}
 use Rattle.bgp_frame.specs.declared.kind.Kind.TheVariants as kind
 use Rattle.bgp_frame.specs.declared.notification.Notification.{Notification}
@@ -32,7 +32,7 @@ number_of (outcome.Reset n) = RESET
 abbrev pub nothing_said : Notification
 nothing_said = record { code = 0; subcode = 0; info = record { items = [] } }
 
--- the NOTIFICATION that came, or that ends the session; nothing where there is none
+-- the NOTIFICATION that was received, or that ends the session; nothing where there is none
 abbrev pub said_by : Outcome → Notification
 said_by (outcome.Took (message.Notification n) notes) = n
 said_by (outcome.Took (message.Open o) notes) = nothing_said
@@ -41,7 +41,7 @@ said_by (outcome.Took message.Keepalive notes) = nothing_said
 said_by (outcome.Withdraw routes notes) = nothing_said
 said_by (outcome.Reset n) = n
 
--- an outcome of a message of this type and of so many octets, with the offsets of its parts
+-- an outcome of a message of this type and length, with the offsets of its parts
 abbrev pub verdict_told : ℕ → ℕ → ToldParts → Outcome → Verdict
 verdict_told kind len parts o = record {
   verdict = number_of o;
@@ -58,7 +58,7 @@ abbrev pub parts_at : Kind → List ℕ → ToldParts
 parts_at kind.Update body = parts_told (parts_of body)
 parts_at _ body = parts_told None
 
--- what a call has: its status, and what stands in the caller's places before and behind it
+-- what a call has: its status, and the caller's memory before and after it
 pub record Judging : Type 0 where
   pub status : ℕ
   pub before : Verdict
@@ -72,7 +72,7 @@ pub record IsLeft (answer : ℕ) (j : Judging) : Type 0 where
   pub out : j.behind ≡ j.before
   pub info : j.info_behind ≡ j.info_before
 
--- the outcome is told, and the data of its NOTIFICATION are copied where there is room
+-- the outcome is written, and the data of its NOTIFICATION are copied where there is room
 pub record IsTold (told : Verdict) (o : Outcome) (j : Judging) : Type 0 where
   pub status : j.status ≡ (if nat_le (length (said_by o).info.items) (length j.info_before) then OK else ROOM)
   pub out : j.behind ≡ told
@@ -85,7 +85,7 @@ Answers ctx (step.Frame f) j = IsTold (verdict_told (code_of f.kind) f.len (part
     (out_of ctx (record { kind = f.kind; body = f.body.now })) j
 Answers ctx (step.Fault fault) j = IsTold (verdict_told 0 0 (parts_told None) (of_fault fault)) (of_fault fault) j
 
--- the octets at the offsets that are told of an UPDATE's parts are these parts
+-- the octets at the reported offsets of an UPDATE's parts are these parts
 abbrev pub PartsLie : List ℕ → Step → Type 0
 PartsLie octets (step.Frame f) = (p : update.Parts) → parts_of f.body.now ≡ Some p → Lie octets p (parts_told (Some p))
 PartsLie octets step.More = Unit {0}

@@ -1,4 +1,4 @@
--- The names of numbers: the calls' own statuses, the reasons of notes as `bgp show` prints them, and what the registries of IANA have.
+-- The names of numbers: the calls' own statuses, the reasons of notes as `bgp show` prints them, and those of IANA's registries.
 use Rattle.std.specs.Prelude.{◌==◌, ℕ, List, [], ◌∷◌, Option, None, Some, codes, if◌then◌else◌}
 use Rattle.bgp_attr.specs.declared.why.Why.TheVariants as why
 use Rattle.bgp_names.specs.Attributes.{attribute_name}
@@ -48,7 +48,7 @@ reason_name number = named (
     (15, why_name why.AsZero) ∷ (
     [])))))))))))))))) number
 
--- the name of a number of this kind, or of a subcode of a code: nothing where there is none here
+-- the name of a number of this kind, or of a subcode of a code: empty where it isn't known here
 abbrev pub name_of : ℕ → ℕ → ℕ → Option (List ℕ)
 name_of kind number subcode =
     if kind == STATUS then Some (status_name number) else (

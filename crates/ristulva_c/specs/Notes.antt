@@ -1,6 +1,6 @@
 -- The notes on an UPDATE, in numbers (RFC 7606, section 6).
 use Rattle.std.specs.Prelude.{◌≡◌, ◌==◌, ◌+◌, ◌≤◌, ℕ, List, [], ◌∷◌, length, map, nat_le, if◌then◌else◌}
-use Rattle.bgp_frame.specs.declared.step.Step.{Step}
+use Rattle.bgp_frame.specs.Step.{Step}
 use Rattle.bgp_frame.specs.Prelude.{ShowsFront}
 use Rattle.bgp_frame.specs.declared.step.Step.TheVariants as step
 use Rattle.bgp_open.specs.declared.context.Context.{Context}
@@ -41,17 +41,17 @@ notes_in (outcome.Took m notes) = notes
 notes_in (outcome.Withdraw routes notes) = notes
 notes_in (outcome.Reset n) = []
 
--- as they are told
+-- as reported
 abbrev pub told_in : Outcome → List ToldNote
 told_in o = map note_told (notes_in o)
 
--- a list of the caller's with these notes in its first places, as many as it has; those behind them are as they were
+-- the caller's list with these notes first, as many as fit; the elements after them are unchanged
 abbrev pub listed : List ToldNote → List ToldNote → List ToldNote
 listed [] places = places
 listed (n ∷ ns) [] = []
 listed (n ∷ ns) (old ∷ places) = n ∷ listed ns places
 
--- what a call has: its status, and what stands in the caller's places before and behind it
+-- what a call has: its status, and the caller's memory before and after it
 pub record Listing : Type 0 where
   pub status : ℕ
   pub before : List ToldNote
@@ -65,7 +65,7 @@ pub record IsLeft (answer : ℕ) (l : Listing) : Type 0 where
   pub list : l.behind ≡ l.before
   pub count : l.count_behind ≡ l.count_before
 
--- these notes are listed, as many as there is room for; how many they are is told either way, and they aren't more than a message has room for
+-- these notes are listed, as many as fit; their number is written either way, and is at most what a message has room for
 pub record IsListed (notes : List ToldNote) (l : Listing) : Type 0 where
   pub status : l.status ≡ (if nat_le (length notes) (length l.before) then OK else ROOM)
   pub list : l.behind ≡ listed notes l.before

@@ -16,11 +16,11 @@ abbrev pub set_flag : SegKind → ℕ
 set_flag Set = 1
 set_flag Seq = 0
 
--- the row of a number, of the message that begins at an offset and of the segment at a place of the path
+-- the row of a number, by the offset of its message and the index of its segment in the path
 abbrev pub number_row : ℕ → ℕ → SegKind → AsNumber → NumberRow
 number_row message segment kind n = record { message = message; number = n.0; segment = segment; set = set_flag kind; reserved = 0 }
 
--- those of segments, the first of which is at a place
+-- those of segments, the first of which has this index
 abbrev pub segment_rows : ℕ → ℕ → List Segment → List NumberRow
 segment_rows message segment [] = []
 segment_rows message segment (s ∷ later) = map (number_row message segment s.kind) s.numbers ++ segment_rows message (segment + 1) later

@@ -2,7 +2,7 @@
 use Rattle.std.specs.Prelude.{◌≡◌, ℕ, Bool, List, Option, None, Some, Result, Ok, Err, if◌then◌else◌}
 use Rattle.bgp_numbers.specs.declared.afi.TheConstants.{IPV4, IPV6}
 use Rattle.bgp_frame.specs.declared.kind.Kind.{Kind}
-use Rattle.bgp_frame.specs.declared.step.Step.{Step}
+use Rattle.bgp_frame.specs.Step.{Step}
 use Rattle.bgp_frame.specs.Prelude.{ShowsFront}
 use Rattle.bgp_frame.specs.declared.kind.Kind.TheVariants as kind
 use Rattle.bgp_frame.specs.declared.step.Step.TheVariants as step
@@ -23,12 +23,12 @@ use Rattle.ristulva_c.specs.Capabilities.{IsCapabilities, capabilities_left}
 abbrev pub flag_of : Bool → ℕ
 flag_of is = if is then 1 else 0
 
--- a cursor over the capabilities of an OPEN whose message has so many octets: its parameters stand behind the header's 19 octets and the
+-- a cursor over the capabilities of an OPEN of this length: its parameters follow the header's 19 octets and the
 -- body's first ten, and none of them is begun
 abbrev pub cursor_of : ℕ → Capabilities
 cursor_of len = record { at = 29; stop = 29; end = len }
 
--- an OPEN whose message has so many octets
+-- an OPEN whose message has this length
 abbrev pub open_told : ℕ → Open → OpenFields
 open_told len o = record {
   as_number = peer_as_of o;
@@ -54,7 +54,7 @@ accepted (outcome.Reset n) = None
 abbrev pub IsKept : ℕ → ℕ → OpenFields → OpenFields → Type 0
 IsKept answer status before behind = (status ≡ answer) × (behind ≡ before)
 
--- an OPEN that is accepted is told, of a message of so many octets, and else nothing
+-- an OPEN that is accepted is written, by the length of its message, and else nothing
 abbrev pub TellsOpen : ℕ → Option Open → ℕ → OpenFields → OpenFields → Type 0
 TellsOpen len (Some o) status before behind = (status ≡ OK) × (behind ≡ open_told len o)
 TellsOpen len None status before behind = IsKept REFUSED status before behind
@@ -70,13 +70,13 @@ pub record Gives (octets : List ℕ) (caps : List Capability) (cursor : Capabili
   pub lies : IsCapabilities octets cursor
   pub gives : capabilities_left octets cursor ≡ caps
 
--- the cursor that is told of an OPEN gives its capabilities
+-- the reported cursor of an OPEN gives its capabilities
 abbrev pub CapabilitiesLie : List ℕ → Step → Type 0
 CapabilitiesLie octets (step.Frame f) = (ctx : Context) (o : Open) → accepted (out_of ctx (record { kind = f.kind; body = f.body.now })) ≡ Some o → Gives octets o.caps (cursor_of f.len)
 CapabilitiesLie octets step.More = Unit {0}
 CapabilitiesLie octets (step.Fault fault) = Unit {0}
 
--- what the OPEN says that octets begin with is told
+-- what the OPEN that octets begin with says is written
 pub record IsOpened (octets : List ℕ) (status : ℕ) (before behind : OpenFields) : Type 0 where
   pub found : Step
   pub shows : ShowsFront octets found

@@ -1,14 +1,14 @@
--- Where the parts of an UPDATE lie in its message (RFC 4271, section 4.3).
+-- The offsets of the parts of an UPDATE in its message (RFC 4271, section 4.3).
 use Rattle.std.specs.Prelude.{◌≡◌, ◌+◌, ℕ, List, length, Option, Some, None}
 use Rattle.bgp_update.specs.Parts as update
 use Rattle.ristulva_c.specs.declared.parts.ToldParts.{ToldParts}
 use Rattle.ristulva_c.specs.Span.{octets_in, no_span}
 
--- how long Withdrawn Routes are, the path attributes, and how long the NLRI field is
+-- the length of Withdrawn Routes, the path attributes, and the length of the NLRI field
 abbrev pub fields_of : update.Parts → ℕ × List ℕ × ℕ
 fields_of p = (length p.withdrawn, p.attributes, length p.nlri)
 
--- the offsets of the parts: behind the header of 19 octets, each but the last behind its length of two octets
+-- the offsets of the parts: after the header of 19 octets, each but the last after its length of two octets
 abbrev pub parts_told : Option update.Parts → ToldParts
 parts_told None = record { withdrawn = no_span; attributes = no_span; nlri = no_span }
 parts_told (Some p) = record {

@@ -1,4 +1,4 @@
--- The UPDATE of a session with AS numbers of two octets, as speakers with four see it.
+-- The UPDATE of a session with 2-octet AS numbers, as 4-octet speakers see it.
 use Rattle.std.specs.Prelude.{ℕ, List, Option, None, option_map, false, true}
 use Rattle.bgp_open.specs.declared.context.Context.{Context}
 use Rattle.bgp_update.specs.declared.attrs.Attrs.{Attrs}
@@ -7,7 +7,7 @@ use Rattle.bgp_update.specs.Prelude.{rebuilt, verdict_of, with_as4}
 use Rattle.ristulva_c.specs.Encode.{Comes, taken_of, written_of}
 use Rattle.ristulva_c.specs.Text.{Writing}
 
--- the path and the aggregator that AS4_PATH and AS4_AGGREGATOR give back stand in their place (RFC 6793, section 4.2.3)
+-- the path and the aggregator that AS4_PATH and AS4_AGGREGATOR give replace all four attributes (RFC 6793, section 4.2.3)
 abbrev pub rebuilt_attrs : Attrs → Attrs
 rebuilt_attrs a = record {
   origin = a.origin;
@@ -29,7 +29,7 @@ rebuilt_attrs a = record {
 abbrev pub rebuilt_update : Update → Update
 rebuilt_update u = record { withdrawn = u.withdrawn; attrs = rebuilt_attrs u.attrs; nlri = u.nlri }
 
--- its message with AS numbers of four octets, where it can be written
+-- its message with 4-octet AS numbers, where it can be written
 abbrev pub reconciled_of : Context → Update → Option (List ℕ)
 reconciled_of ctx u = written_of (with_as4 true ctx) (rebuilt_update u)
 

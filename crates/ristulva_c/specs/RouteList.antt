@@ -1,11 +1,11 @@
--- The routes of an UPDATE, announced and withdrawn as RFC 7606 has them, one after another by a cursor.
+-- The routes of an UPDATE, announced and withdrawn by RFC 7606, in sequence by a cursor.
 use Rattle.std.specs.Prelude.{◌≡◌, ◌==◌, ◌&&◌, ◌||◌, ◌++◌, not, ℕ, Bool, true, false, List, [], ◌∷◌, map, Option, Some, None, is_some}
 use Rattle.std.specs.Int.{w16, from_be_bytes}
 use Rattle.std.specs.List.{filter}
 use Rattle.bgp_numbers.specs.declared.afi.TheConstants.{IPV4, IPV6}
 use Rattle.bgp_numbers.specs.declared.attribute.TheConstants.{MP_REACH_NLRI, MP_UNREACH_NLRI}
 use Rattle.bgp_numbers.specs.declared.safi.TheConstants.{UNICAST}
-use Rattle.bgp_frame.specs.declared.step.Step.{Step}
+use Rattle.bgp_frame.specs.Step.{Step}
 use Rattle.bgp_frame.specs.Prelude.{ShowsFront}
 use Rattle.bgp_frame.specs.declared.step.Step.TheVariants as step
 use Rattle.bgp_open.specs.declared.context.Context.{Context}
@@ -62,8 +62,8 @@ routes_of announces u =
 abbrev pub is_of : ℕ → RouteValue → Bool
 is_of afi r = r.afi == afi
 
--- all are withdrawn, each family in its order; and all stand in the order of an UPDATE's four fields, of which the two attributes have routes of one family
--- each
+-- all are withdrawn, each family in its order; and all are in the order of an UPDATE's four fields, of which the two attributes have routes of one
+-- family each
 pub record AreWithdrawn (all : Routes) (routes : List RouteValue) : Type 0 where
   pub update : Update
   pub in_order : routes ≡ routes_of false update
@@ -115,7 +115,7 @@ loses_ip6 ctx parts o = is_judged_update o && (not ctx.ip6 && carries_ip6 parts)
 abbrev pub field_routes : Bool → List ℕ → Prefixes → List RouteValue
 field_routes announced octets c = routes_to announced c.afi (prefixes_left octets c)
 
--- the routes still to come
+-- the remaining routes
 abbrev pub routes_left : List ℕ → RouteCursor → List RouteValue
 routes_left octets c =
     field_routes false octets c.withdrawn
@@ -128,7 +128,7 @@ pub record IsRouteCursor (octets : List ℕ) (c : RouteCursor) : Type 0 where
   pub reached : IsCursor octets c.reached
   pub nlri : IsCursor octets c.nlri
 
--- a cursor that is moved to these places: where its fields end, their families, and what it says of them stay
+-- a cursor moved to these offsets: the ends of its fields, their families, and its flags are unchanged
 abbrev pub moved : RouteCursor → ℕ → ℕ → ℕ → ℕ → RouteCursor
 moved c withdrawn unreached reached nlri = record c {
   withdrawn = record c.withdrawn { at = withdrawn };
@@ -137,11 +137,11 @@ moved c withdrawn unreached reached nlri = record c {
   nlri = record c.nlri { at = nlri };
 }
 
--- the route that is told
+-- the reported route
 abbrev pub route_told : Route → RouteValue
 route_told out = record { announced = is_set out.announced; afi = out.prefix.afi; prefix = prefix_told out.prefix }
 
--- a cursor stands at the first of a message's routes, by its outcome, and says whether it announces those that an UPDATE may announce, and whether IPv6
+-- a cursor is at the first of a message's routes, by its outcome, and says whether it announces those that an UPDATE may announce, and whether IPv6
 -- routes are lost
 pub record Begins (octets : List ℕ) (o : Outcome) (loses : Bool) (c : RouteCursor) : Type 0 where
   pub lies : IsRouteCursor octets c
@@ -149,8 +149,8 @@ pub record Begins (octets : List ℕ) (o : Outcome) (loses : Bool) (c : RouteCur
   pub announces : c.announces ≡ flag_of (is_some (attrs_in o))
   pub loses_ip6 : c.loses_ip6 ≡ flag_of loses
 
--- the routes of an UPDATE that is treated as a withdrawal stand in the order of its fields, of what is kept: those of Withdrawn Routes, of MP_UNREACH_NLRI,
--- of MP_REACH_NLRI, and of Network Layer Reachability Information
+-- the routes of an UPDATE that is treated as a withdrawal are in the order of its fields, of what is kept: those of Withdrawn Routes, of
+-- MP_UNREACH_NLRI, of MP_REACH_NLRI, and of Network Layer Reachability Information
 abbrev pub AreOfFields : Context → Option Parts → List RouteValue → Type 0
 AreOfFields ctx None routes = Unit {0}
 AreOfFields ctx (Some p) routes = routes ≡ routes_of false (update_of p (marks_of ctx p))

@@ -13,18 +13,18 @@ use Rattle.ristulva_c.specs.Facts.{attrs_in, no_address, paths_told}
 use Rattle.ristulva_c.specs.Judge.{number_of}
 use Rattle.ristulva_c.specs.RouteList.{RouteValue, AreRoutes}
 
--- where octets lie in a message, of which each offset has two octets
+-- a span in a message, as two numbers of two octets
 abbrev pub place_of : Span → Place
 place_of s = record { at = s.at; len = s.len }
 
 abbrev pub no_place : Place
 no_place = record { at = 0; len = 0 }
 
--- a prefix, with zeros behind an address of four octets
+-- a prefix, with zeros after an address of four octets
 abbrev pub prefix_row : ℕ → PrefixValue → RoutePrefix
 prefix_row afi p = record { afi = afi; len = p.len; addr = p.addr ++ drop (length p.addr) no_address }
 
--- a route that is withdrawn, of the message that begins at an offset and has a verdict: of attributes nothing is told
+-- a route that is withdrawn, by the offset and the verdict of its message: nothing is reported of attributes
 abbrev pub withdrawn_row : ℕ → ℕ → RoutePrefix → RouteRow
 withdrawn_row message verdict prefix = record {
   message = message;
@@ -40,7 +40,7 @@ withdrawn_row message verdict prefix = record {
   reserved = 0 ∷ 0 ∷ 0 ∷ 0 ∷ 0 ∷ [];
 }
 
--- a route that is announced: where the paths and communities that are kept lie, and the AS that it came from
+-- a route that is announced: the spans of the paths and communities that are kept, and the origin AS
 abbrev pub announced_row : ℕ → ℕ → Paths → RoutePrefix → RouteRow
 announced_row message verdict paths prefix = record {
   message = message;

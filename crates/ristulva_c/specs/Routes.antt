@@ -1,4 +1,4 @@
--- Where the prefixes of MP_REACH_NLRI and MP_UNREACH_NLRI lie (RFC 4760, sections 3 and 4).
+-- The offsets of the prefixes of MP_REACH_NLRI and MP_UNREACH_NLRI (RFC 4760, sections 3 and 4).
 use Rattle.std.specs.Prelude.{◌≡◌, ◌+◌, ◌^◌, ◌<◌, ◌≤◌, ◌⊎◌, ℕ, List, length, take}
 use Rattle.bgp_numbers.specs.declared.afi.TheConstants.{IPV4, IPV6}
 use Rattle.bgp_numbers.specs.declared.safi.TheConstants.{UNICAST}
@@ -24,18 +24,18 @@ unreach_prefixes (unreach.Ip6 routes) = routes
 abbrev pub hop_of : List ℕ → List ℕ
 hop_of value = take (next_hop_length value) (next_hop_of value)
 
--- the span lies in the octets, and its end is a number of four octets too
+-- the span lies in the octets, and its end fits in four octets too
 pub record LiesIn (span : Span) (octets : List ℕ) : Type 0 where
   pub within : span.at + span.len ≤ length octets
   pub fits : span.at + span.len < 2 ^ 32
 
--- a value begins with a family that is read: unicast routes of IPv4 or IPv6
+-- a value begins with a supported family: unicast routes of IPv4 or IPv6
 pub record HasFamily (value : List ℕ) : Type 0 where
   pub long : 3 ≤ length value
   pub unicast : safi_of value ≡ UNICAST
   pub known : (afi_of value ≡ IPV4) ⊎ (afi_of value ≡ IPV6)
 
--- and has room for the next hop and the octet behind it
+-- and has room for the next hop and the octet after it
 pub record IsReachValue (value : List ℕ) : Type 0 where
   pub family : HasFamily value
   pub long : 5 + next_hop_length value ≤ length value

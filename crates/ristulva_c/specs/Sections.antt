@@ -1,6 +1,6 @@
--- The sections of the RFCs by which a message is answered by a reset, and by which a note on it is called for.
+-- The sections of the RFCs by which a message is answered by a reset, and those that require a note on it.
 use Rattle.std.specs.Prelude.{ℕ, List, [], ◌∷◌, Option, None, Some, MatchOption}
-use Rattle.bgp_frame.specs.declared.step.Step.{Step}
+use Rattle.bgp_frame.specs.Step.{Step}
 use Rattle.bgp_frame.specs.declared.step.Step.TheVariants as step
 use Rattle.bgp_frame.specs.Prelude.{message_in, ShowsFront}
 use Rattle.bgp_open.specs.declared.context.Context.{Context}

@@ -20,11 +20,11 @@ pub record IsSentIn (x : Machine) (u : Update) (octets : List ℕ) : Type 0 wher
   pub actions : List machine.Action
   pub sends : IsSent x u actions [] octets
 
--- routes of one kind, whose message would be too long as the peer is told it
+-- routes of one kind, whose message would be too long in the form for the peer
 abbrev pub IsTooLong : Context → Update → Type 0
 IsTooLong ctx u = (is_mixed u ≡ false) × (is_told_too_long ctx u ≡ true)
 
--- what the code calls it
+-- the code's value for it
 abbrev pub IsOutgoing : Machine → Context → Option Update → Outgoing → Type 0
 IsOutgoing x ctx None outgoing.Refused = Unit {0}
 IsOutgoing x ctx None _ = ⊥
@@ -34,7 +34,7 @@ IsOutgoing x ctx (Some u) outgoing.TooLong = IsTooLong ctx u
 IsOutgoing x ctx (Some u) outgoing.Memory = Unit {0}
 IsOutgoing x ctx (Some u) (outgoing.Octets octets) = IsSentIn x u octets.items
 
--- the message stands at the front of the buffer, and the Keepalive Timer begins anew; the session stays as it is
+-- the message is written to the buffer, and the Keepalive Timer is restarted; the session is unchanged
 pub record IsWrittenFor (x : Machine) (ctx : Context) (u : Update) (a : Answer) : Type 0 where
   pub octets : List ℕ
   pub sends : IsSentIn x u octets
@@ -44,16 +44,16 @@ pub record IsWrittenFor (x : Machine) (ctx : Context) (u : Update) (a : Answer) 
   pub message : a.message_behind ≡ copied octets a.message_before
   pub len : a.len_behind ≡ length octets
 
--- nothing is sent of routes of several kinds, nor of what would be too long, and nothing is changed: of what is accepted whole nothing else is refused
+-- routes of several kinds aren't sent, nor what would be too long, and nothing is changed: nothing else is refused of what is accepted whole
 abbrev pub IsKept : Context → Update → Answer → Type 0
 IsKept ctx u a = ((is_mixed u ≡ true) × IsLeft MIXED a) ⊎ (IsTooLong ctx u × IsLeft UNWRITABLE a)
 
--- by what the body is, with AS numbers of four octets: not accepted whole; or an UPDATE, for which alone memory can run out
+-- by what the body is, with 4-octet AS numbers: not accepted whole; or an UPDATE, for which alone an allocation can fail
 abbrev pub SendsTaken : Machine → Context → Option Update → Answer → Type 0
 SendsTaken x ctx None a = IsLeft REFUSED a
 SendsTaken x ctx (Some u) a = IsWrittenFor x ctx u a ⊎ (IsKept ctx u a ⊎ IsLeft MEMORY a)
 
--- a body is too long to be one, or this comes of it
+-- a body is too long to be one, or has this result
 abbrev pub SendsBody : Machine → Context → List ℕ → Answer → Type 0
 SendsBody x ctx body a =
     ((length body ≤ 4077) × SendsTaken x ctx (taken_of (verdict_of (with_as4 true ctx) body)) a)
@@ -63,7 +63,7 @@ abbrev pub SendsIn : Machine → Option Context → List ℕ → Answer → Type
 SendsIn x None body a = IsLeft STATE a
 SendsIn x (Some ctx) body a = SendsBody x ctx body a
 
--- the state comes first: in all but Established the body isn't looked at
+-- the state is tested first: in all but Established the body isn't read
 abbrev pub SendsAt : Machine → State → List ℕ → Answer → Type 0
 SendsAt x state.Established body a = SendsIn x x.standing.context body a
 SendsAt x _ body a = IsLeft STATE a

@@ -11,7 +11,7 @@ use Rattle.ristulva_c.specs.Actions.{actions_told, octets_sent}
 use Rattle.ristulva_c.specs.Copied.{copied}
 use Rattle.ristulva_c.specs.States.{number_of_state}
 
--- a session is made where the handle has none and settings are allowed, unless memory ran out
+-- a session is made where the handle has none and settings are allowed, unless an allocation failed
 abbrev pub IsMade : Result Settings BadConfig → Option Machine → ℕ → Option Machine → Type 0
 IsMade settings (Some old) status new = (status ≡ IN_USE) × (new ≡ Some old)
 IsMade (Err bad) None status new = (status ≡ CONFIG) × (new ≡ None)
@@ -21,14 +21,14 @@ abbrev pub IsFreed : Option Machine → ℕ → Option Machine → Type 0
 IsFreed None status new = (status ≡ NO_SESSION) × (new ≡ None)
 IsFreed (Some old) status new = (status ≡ OK) × (new ≡ None)
 
--- the state is told; where there is no session, nothing is written
+-- the state is written; where there is no session, nothing is
 abbrev pub IsStateTold : Option Machine → ℕ → ℕ → ℕ → Type 0
 IsStateTold None status before behind = (status ≡ NO_SESSION) × (behind ≡ before)
 IsStateTold (Some x) status before behind = (status ≡ OK) × (behind ≡ number_of_state x.standing.state)
 
 -- ---- what is done
 
--- what a call has: its status, and what stands in the caller's places before and behind it
+-- what a call has: its status, and the caller's memory before and after it
 pub record Answer : Type 0 where
   pub status : ℕ
   pub old : Option Machine
@@ -48,7 +48,7 @@ pub record IsLeft (answer : ℕ) (a : Answer) : Type 0 where
   pub message : a.message_behind ≡ a.message_before
   pub len : a.len_behind ≡ a.len_before
 
--- these actions are to be done, the message that they send stands at the front of the buffer, and the session goes on so
+-- these actions are to be done, the message that they send is written to the buffer, and the session continues so
 pub record IsDone (settings : Settings) (done : List machine.Action) (next : Machine) (a : Answer) : Type 0 where
   pub status : a.status ≡ OK
   pub session : a.new ≡ Some next

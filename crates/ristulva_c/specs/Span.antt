@@ -1,4 +1,4 @@
--- Where octets lie.
+-- Spans of octets.
 use Rattle.std.specs.Prelude.{List, ℕ, take, drop}
 use Rattle.ristulva_c.specs.declared.span.Span.{Span}
 

@@ -1,4 +1,4 @@
--- The states and the timers of a session, and what happens to it, as numbers.
+-- The states and the timers of a session, and its events, as numbers.
 use Rattle.std.specs.Prelude.{ℕ, ◌==◌, Option, None, Some, if◌then◌else◌}
 use Rattle.bgp_machine.specs.declared.event.Event.{Event}
 use Rattle.bgp_machine.specs.declared.state.State.{State}

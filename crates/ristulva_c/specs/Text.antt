@@ -1,6 +1,6 @@
--- The printed form of a message, in a buffer of the caller's.
+-- The printed form of a message, in the caller's buffer.
 use Rattle.std.specs.Prelude.{◌≡◌, ◌⊎◌, ℕ, List, length, nat_le, Option, Some, None, if◌then◌else◌}
-use Rattle.bgp_frame.specs.declared.step.Step.{Step}
+use Rattle.bgp_frame.specs.Step.{Step}
 use Rattle.bgp_frame.specs.Prelude.{ShowsFront}
 use Rattle.bgp_frame.specs.declared.step.Step.TheVariants as step
 use Rattle.bgp_open.specs.declared.context.Context.{Context}
@@ -15,7 +15,7 @@ lines_of ctx place step.More = None
 lines_of ctx place (step.Frame f) = Some (outcome_lines place f.len (out_of ctx (record { kind = f.kind; body = f.body.now })))
 lines_of ctx place (step.Fault fault) = Some (outcome_lines place 0 (of_fault fault))
 
--- what a call has: its status, and what stands in the caller's places before and behind it
+-- what a call has: its status, and the caller's memory before and after it
 pub record Writing : Type 0 where
   pub status : ℕ
   pub before : List ℕ
@@ -29,13 +29,13 @@ pub record IsLeft (answer : ℕ) (w : Writing) : Type 0 where
   pub buffer : w.behind ≡ w.before
   pub len : w.len_behind ≡ w.len_before
 
--- the text stands at the buffer's front where there is room; its length is told either way
+-- the text is written to the buffer where there is room; its length is written either way
 pub record IsWritten (text : List ℕ) (w : Writing) : Type 0 where
   pub status : w.status ≡ (if nat_le (length text) (length w.before) then OK else ROOM)
   pub buffer : w.behind ≡ copied text w.before
   pub len : w.len_behind ≡ length text
 
--- less than a message; or the lines, for which memory can run out
+-- less than a message; or the lines, for which an allocation can fail
 abbrev pub Prints : Option (List ℕ) → Writing → Type 0
 Prints None w = IsLeft INCOMPLETE w
 Prints (Some text) w = IsWritten text w ⊎ IsLeft MEMORY w

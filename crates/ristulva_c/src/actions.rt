@@ -13,7 +13,7 @@ pub const NOTHING: u8 = 0;
 /// Seek a connection to the peer.
 pub const SEEK: u8 = 1;
 
-/// Close the connection, or give up the one that is sought.
+/// Close the connection, or abandon the attempt.
 pub const CLOSE: u8 = 2;
 
 /// Send the session's own OPEN.
@@ -25,7 +25,7 @@ pub const SEND_KEEPALIVE: u8 = 4;
 /// Send a NOTIFICATION.
 pub const SEND_NOTIFICATION: u8 = 5;
 
-/// Start the timer, or start it anew.
+/// Start or restart the timer.
 pub const ARM: u8 = 6;
 
 /// Stop the timer.
@@ -37,7 +37,7 @@ pub const ANNOUNCE: u8 = 8;
 /// The peer's message is treated as a withdrawal of its routes (RFC 7606, section 2).
 pub const WITHDRAW_ROUTES: u8 = 9;
 
-/// All routes of the peer are gone with the session.
+/// The session has ended, and all routes of the peer with it.
 pub const FLUSH: u8 = 10;
 
 /// One thing to be done.
@@ -60,9 +60,9 @@ pub struct Action {
 #[repr(C)]
 #[derive(Clone, Copy)]
 pub struct Actions {
-    /// How many things: at most five.
+    /// The number of actions: at most five.
     pub count: usize,
-    /// What they are, and `NOTHING` behind the last.
+    /// The actions, and `NOTHING` after the last.
     pub list: [Action; 5],
 }
 
@@ -74,7 +74,7 @@ fn no_action() -> Action
     plain(NOTHING)
 }
 
-/// An action that is all in its kind.
+/// An action without arguments.
 #[inline(always)]
 fn plain(kind: u8) -> Action
     ensures { result ≡ plain kind }
@@ -88,7 +88,7 @@ fn plain(kind: u8) -> Action
     }
 }
 
-/// An action as it is told.
+/// An action in numbers.
 fn action_told(action: &ActionView<'_>) -> Action
     ensures { result ≡ action_told (action_of action.now) }
 {
@@ -117,7 +117,7 @@ fn action_told(action: &ActionView<'_>) -> Action
     }
 }
 
-/// The first action as it is told, and those behind it.
+/// The first action in numbers, and those after it.
 #[inline(always)]
 fn first<'a, 'b>(actions: &'b [ActionView<'a>]) -> (Action, &'b [ActionView<'a>])
     ensures first { result.0 ≡ first_told (map action_of actions.now) }
@@ -129,7 +129,7 @@ fn first<'a, 'b>(actions: &'b [ActionView<'a>]) -> (Action, &'b [ActionView<'a>]
     }
 }
 
-/// How many places are taken.
+/// The number of actions.
 #[inline(always)]
 fn count_of(actions: &[ActionView<'_>]) -> usize
     ensures value { result ≡ count_of (map action_of actions.now) }
@@ -139,7 +139,7 @@ fn count_of(actions: &[ActionView<'_>]) -> usize
     if count > 5 { 5 } else { count }
 }
 
-/// The actions as they are told.
+/// The actions in numbers.
 #[inline(always)]
 pub(crate) fn actions_told(actions: &[ActionView<'_>]) -> Actions
     ensures told { result ≡ actions_told (map action_of actions.now) }

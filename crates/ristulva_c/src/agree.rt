@@ -14,7 +14,7 @@ use crate::status::{INCOMPLETE, OK, REFUSED};
 use bgp_frame::{Frame, Kind, Step, front};
 use bgp_open::{Peer, agreed_context, view_open};
 
-/// What the OPEN that a message is tells of its speaker.
+/// What an OPEN says of its speaker.
 fn peer_in(frame: Frame<'_>) -> Result<Peer, u32>
     requires { IsLength frame.kind (19 + length frame.body.now) }
     ensures { IsPeer (or_refused (accepted_in frame.entry.kind frame.entry.body.now)) result }
@@ -28,7 +28,7 @@ fn peer_in(frame: Frame<'_>) -> Result<Peer, u32>
     }
 }
 
-/// What the OPEN that octets begin with tells of its speaker.
+/// What the OPEN that octets begin with says of its speaker.
 fn peer_at(octets: &[u8]) -> Result<Peer, u32>
     ensures { IsPeerAt octets.now result }
 {
@@ -39,7 +39,7 @@ fn peer_at(octets: &[u8]) -> Result<Peer, u32>
     }
 }
 
-/// Tells what two speakers agree on, where both have said something of themselves.
+/// Writes what two speakers agree on, where there is an OPEN of both.
 fn tell(
     ours: Result<Peer, u32>,
     theirs: Result<Peer, u32>,
@@ -63,7 +63,8 @@ fn tell(
     OK
 }
 
-/// Tells what the OPENs agree on that octets begin with, as the speaker of one finds it from the other. What stands behind them has no effect.
+/// Reports what the OPENs that octets begin with agree on, as the speaker of one finds it from the other. Octets after
+/// them are ignored.
 #[unsafe(no_mangle)]
 pub extern "C" fn ristulva_agree(
     ours: &[u8],

@@ -1,4 +1,4 @@
-//! What both speakers of a session agreed on, and what the peer said of itself.
+//! What both speakers of a session agreed on, and the parameters of the peer's OPEN.
 
 ghost use Rattle.std.specs.Prelude.{◌≡◌, Some};
 ghost use Rattle.bgp_wire.specs.Prelude.{has_octet};
@@ -16,17 +16,17 @@ use bgp_open::{Context, Peer};
 use bgp_wire::OctetSet;
 use std::alloc::Global;
 
-/// What a peer said of itself in the OPEN that was accepted (RFC 4271, section 4.2; RFC 5492).
+/// The parameters of a peer's accepted OPEN (RFC 4271, section 4.2; RFC 5492).
 #[repr(C)]
 #[derive(Clone, Copy)]
 pub struct ToldPeer {
-    /// Its AS number: that of its capability for AS numbers of four octets, else My Autonomous System.
+    /// Its AS number: that of its capability for 4-octet AS numbers, else My Autonomous System.
     pub as_number: u32,
     /// Its BGP Identifier.
     pub id: [u8; 4],
     /// The Hold Time that it proposes, in seconds: 0 for none.
     pub hold: u16,
-    /// Whether it offers AS numbers of four octets (RFC 6793): 0 or 1.
+    /// Whether it offers 4-octet AS numbers (RFC 6793): 0 or 1.
     pub as4: u8,
     /// Whether it offers IPv4 unicast (RFC 4760): 0 or 1.
     pub ip4: u8,
@@ -34,7 +34,7 @@ pub struct ToldPeer {
     pub ip6: u8,
 }
 
-/// A context as C says it.
+/// A context in C's form.
 pub(crate) fn context_said(context: &Context) -> SessionContext
     ensures { result ≡ context_said context.now }
 {
@@ -46,7 +46,7 @@ pub(crate) fn context_said(context: &Context) -> SessionContext
     }
 }
 
-/// A peer as C says it.
+/// A peer in C's form.
 pub(crate) fn peer_said(peer: &Peer) -> ToldPeer
     ensures { result ≡ peer_said (said_of peer.now) }
 {
@@ -60,7 +60,7 @@ pub(crate) fn peer_said(peer: &Peer) -> ToldPeer
     }
 }
 
-/// Tells the context, where there is one.
+/// Writes the context, where there is one.
 fn tell_context(session: &Session, context: &mut SessionContext, hold: &mut u16) -> u32
     ensures { IsContextTold (Some session.now) result context.old context.new hold.old hold.new }
 {
@@ -72,7 +72,7 @@ fn tell_context(session: &Session, context: &mut SessionContext, hold: &mut u16)
     OK
 }
 
-/// Tells what the peer said of itself, where one is accepted.
+/// Writes the parameters of the peer's OPEN, where one is accepted.
 fn tell_peer(session: &Session, peer: &mut ToldPeer) -> u32
     ensures { IsPeerTold (Some session.now) result peer.old peer.new }
 {
@@ -83,7 +83,7 @@ fn tell_peer(session: &Session, peer: &mut ToldPeer) -> u32
     OK
 }
 
-/// The octets of a set, rising.
+/// The octets of a set, in ascending order.
 #[tactic(auto, using(crate::proofs::RisingSteps::one_more, crate::proofs::RisingSteps::none_more, crate::proofs::RisingSteps::few))]
 fn rising(set: &OctetSet) -> ArrayVec<u8, 256>
     ensures { result.items ≡ rising (has_octet set.now) }
@@ -97,7 +97,7 @@ fn rising(set: &OctetSet) -> ArrayVec<u8, 256>
     octets
 }
 
-/// Tells the codes of the peer's capabilities, where one is accepted.
+/// Writes the codes of the peer's capabilities, where one is accepted.
 fn tell_codes(session: &Session, buffer: &mut [u8], len: &mut usize) -> u32
     ensures { IsCodesTold (Some session.now) (record { status = result; before = buffer.old; behind = buffer.new; len_before = len.old; len_behind = len.new }) }
 {
@@ -107,7 +107,7 @@ fn tell_codes(session: &Session, buffer: &mut [u8], len: &mut usize) -> u32
     write(&rising(&said.codes), buffer, len)
 }
 
-/// Tells what both speakers of a session agreed on.
+/// Reports what both speakers of a session agreed on.
 #[unsafe(no_mangle)]
 pub extern "C" fn ristulva_session_context(
     alloc: Global,
@@ -126,7 +126,7 @@ pub extern "C" fn ristulva_session_context(
     status
 }
 
-/// Tells what the peer of a session said of itself.
+/// Reports the parameters of the OPEN of a session's peer.
 #[unsafe(no_mangle)]
 pub extern "C" fn ristulva_session_peer(
     alloc: Global,
@@ -144,7 +144,7 @@ pub extern "C" fn ristulva_session_peer(
     status
 }
 
-/// Tells the codes of all capabilities of the peer of a session, rising.
+/// Reports the codes of all capabilities of the peer of a session, in ascending order.
 #[unsafe(no_mangle)]
 pub extern "C" fn ristulva_session_codes(
     alloc: Global,

@@ -1,4 +1,4 @@
-//! Attributes one after another.
+//! Attributes in sequence.
 
 ghost use Rattle.std.specs.Prelude.{◌≡◌, ◌⊎◌, ◌↔◌, [], ◌∷◌};
 ghost use Rattle.ristulva_c.specs.Prelude.{IsAttributes, attributes_left, attribute_told};
@@ -8,13 +8,13 @@ use crate::span::Span;
 use crate::status::{END, OK, RANGE};
 use bgp_attr::tlv_at;
 
-/// The attributes of a field that are still to come.
+/// The remaining attributes of a field.
 #[repr(C)]
 #[derive(Clone, Copy)]
 pub struct Attributes {
-    /// Where the next one begins.
+    /// The offset of the next one.
     pub at: u32,
-    /// Where the field ends.
+    /// The end of the field.
     pub end: u32,
 }
 
@@ -22,17 +22,17 @@ pub struct Attributes {
 #[repr(C)]
 #[derive(Clone, Copy)]
 pub struct Attribute {
-    /// Where its flags stand.
+    /// The offset of its flags.
     pub at: u32,
     /// The flags octet.
     pub flags: u8,
     /// The type.
     pub kind: u8,
-    /// Where its value lies.
+    /// Its value.
     pub value: Span,
 }
 
-/// Gives the attribute that a cursor stands at, and moves the cursor behind it.
+/// Gives the attribute at a cursor, and moves the cursor after it.
 #[unsafe(no_mangle)]
 #[tactic(auto, using(crate::proofs::TlvSteps::tlv_fits, crate::proofs::TlvSteps::value_fits))]
 pub extern "C" fn ristulva_next_attribute(

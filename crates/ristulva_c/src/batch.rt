@@ -1,4 +1,4 @@
-//! Batches: what messages that stand one behind another give, in rows of a list of the caller's.
+//! Batches: messages in sequence, as rows in the caller's list.
 
 ghost use Rattle.std.specs.Prelude.{◌≡◌, ◌+◌, ◌<◌, ◌≤◌, length, MatchResult};
 ghost use Rattle.bgp_frame.specs.Prelude.{IsLength};
@@ -13,10 +13,10 @@ use bgp_msg::{OutcomeView, view_frame};
 use bgp_open::Context;
 use bgp_update::UpdateView;
 
-/// The most rows of a message: behind its header an UPDATE has two lengths, and each row has an octet at least.
+/// The most rows of a message: after its header an UPDATE has two lengths, and each row has an octet at least.
 const ROWS_MAX: usize = 4073;
 
-/// What a batch has of each message.
+/// The rows that a batch produces for each message.
 pub(crate) trait Batch {
     ghost use Rattle.std.specs.Prelude.{◌≡◌, ◌+◌, ◌≤◌, ℕ, List, Option, length, nat_le};
     ghost use Rattle.bgp_update.specs.Parts.{Parts, parts_of};
@@ -34,14 +34,15 @@ pub(crate) trait Batch {
     /// Those that are written.
     ghost rows: { ℕ → Option Parts → OutcomeView → List Self.Row };
 
-    /// Whether the rows of a message fit in so many places.
+    /// Whether the rows of a message fit in this room.
     fn fit(body: &[u8], outcome: &OutcomeView<'_>, room: usize) -> bool
         requires { IsViewed body.now (outcome_value outcome.now) }
         ensures fit { (at : ℕ) → result ≡ nat_le (length (rows at (parts_of body.now) outcome.now)) room }
         ensures given { (at : ℕ) → gives at (parts_of body.now) (outcome_value outcome.now) (rows at (parts_of body.now) outcome.now) }
         ensures few { (at : ℕ) → length (rows at (parts_of body.now) outcome.now) ≤ 4073 };
 
-    /// Writes the rows of a message that begins at an offset, from a place of the list on. Answers the place behind them.
+    /// Writes the rows of a message that begins at an offset, from an index of the list on. Answers the index after
+    /// them.
     fn put(
         at: u64,
         body: &[u8],
@@ -54,10 +55,10 @@ pub(crate) trait Batch {
         ensures { Adds (rows at (parts_of body.now) outcome.now) from result list.old list.new };
 }
 
-/// What a message has come to: the octets that it has, and the place behind its rows; or what ends the batch.
+/// The result of a message: its length, and the index after its rows; or the status that ends the batch.
 type Next = Result<(usize, usize), u32>;
 
-/// Takes a message, where it doesn't end the session and its rows fit.
+/// Processes a message, where it doesn't end the session and its rows fit.
 fn take_frame<'a, B: Batch>(
     ctx: &Context,
     at: usize,
@@ -83,7 +84,7 @@ fn take_frame<'a, B: Batch>(
     Ok((len, B::put(at as u64, body, &outcome, list, from)))
 }
 
-/// Takes the message at an offset.
+/// Processes the message at an offset.
 fn take<'a, B: Batch>(
     ctx: &Context,
     octets: &'a [u8],
@@ -105,7 +106,7 @@ fn take<'a, B: Batch>(
     }
 }
 
-/// Takes messages from the first octet on.
+/// Processes messages from the first octet on.
 fn walk<B: Batch>(
     ctx: &Context,
     octets: &[u8],
@@ -130,7 +131,7 @@ fn walk<B: Batch>(
     OK
 }
 
-/// Takes messages from the first octet on, where the list has room for the rows of any.
+/// Processes messages from the first octet on, where the list has room for the rows of any.
 pub(crate) fn take_all<B: Batch>(
     ctx: &SessionContext,
     octets: &[u8],

@@ -1,4 +1,4 @@
-//! Capabilities of an OPEN one after another.
+//! The capabilities of an OPEN in sequence.
 
 ghost use Rattle.std.specs.Prelude.{◌≡◌, ◌⊎◌, ◌↔◌, None, [], IsTrue, MatchOption};
 ghost use Rattle.bgp_open.specs.Prelude.{one_capability};
@@ -9,15 +9,15 @@ use crate::span::Span;
 use crate::status::{END, OK, RANGE};
 use bgp_open::{first_capability, first_parameter};
 
-/// The capabilities of an OPEN that are still to come.
+/// The remaining capabilities of an OPEN.
 #[repr(C)]
 #[derive(Clone, Copy)]
 pub struct Capabilities {
-    /// Where the next one begins, in the parameter that was begun.
+    /// The offset of the next one, in the parameter that was begun.
     pub at: u32,
-    /// Where that parameter ends, and the next one begins.
+    /// The end of that parameter, where the next one begins.
     pub stop: u32,
-    /// Where the parameters end.
+    /// The end of the parameters.
     pub end: u32,
 }
 
@@ -27,11 +27,11 @@ pub struct Capabilities {
 pub struct OpenCapability {
     /// The code.
     pub code: u8,
-    /// Where its value lies.
+    /// Its value.
     pub value: Span,
 }
 
-/// The capability of the parameter that was begun, where it has one more; the cursor moves behind it.
+/// The capability of the parameter that was begun, where it has one more; the cursor moves after it.
 #[tactic(auto, using(crate::proofs::CapabilitySteps::begun_fits))]
 fn begun(octets: &[u8], cursor: &mut Capabilities) -> Option<OpenCapability>
     requires { IsCapabilities octets.now cursor.old }
@@ -51,7 +51,7 @@ fn begun(octets: &[u8], cursor: &mut Capabilities) -> Option<OpenCapability>
     })
 }
 
-/// The next capability; the cursor moves behind it. Parameters without one are passed.
+/// The next capability; the cursor moves after it. Parameters without one are skipped.
 #[tactic(auto, using(crate::proofs::CapabilitySteps::later_fits))]
 fn next_capability(octets: &[u8], cursor: &mut Capabilities) -> Option<OpenCapability>
     requires { IsCapabilities octets.now cursor.old }
@@ -77,7 +77,7 @@ fn is_cursor(octets: &[u8], cursor: &Capabilities) -> bool
     cursor.at <= cursor.stop && cursor.stop <= cursor.end && cursor.end as usize <= octets.len()
 }
 
-/// Gives the capability that a cursor stands at, and moves the cursor behind it.
+/// Gives the capability at a cursor, and moves the cursor after it.
 #[unsafe(no_mangle)]
 pub extern "C" fn ristulva_next_capability(
     octets: &[u8],

@@ -1,4 +1,4 @@
-//! What is handed on of a message.
+//! What is passed on of a message.
 
 ghost use Rattle.std.specs.Prelude.{◌≡◌, ◌+◌, ℕ, Bool, List, [], Result, length};
 ghost use Rattle.bgp_wire.specs.Prelude.{has_octet};
@@ -24,10 +24,10 @@ use bgp_open::Context;
 use bgp_update::UpdateView;
 use bgp_wire::{OctetSet, Page, are_octets};
 
-/// At most so many octets are written of what is handed on of a message: an UPDATE goes on by three parts at most.
+/// The greatest length of what is passed on of a message: an UPDATE is passed on in at most three parts.
 const PARTS: usize = 12288;
 
-/// A message is handed on, or what stands for it is.
+/// A message is passed on, or its replacement is.
 pub const HANDED_ON: u8 = 0;
 
 /// The cleaned stream ends: the message is answered by a NOTIFICATION.
@@ -39,7 +39,7 @@ pub const ENDS_LATE_OPEN: u8 = 2;
 /// It ends: the message is an OPEN that offers families, and neither IPv4 nor IPv6 unicast.
 pub const ENDS_NO_FAMILY: u8 = 3;
 
-/// What came of a message that is cleaned.
+/// The result of cleaning a message.
 #[repr(C)]
 #[derive(Clone, Copy)]
 pub struct ToldCleaned {
@@ -51,13 +51,13 @@ pub struct ToldCleaned {
     pub code: u8,
     /// Its subcode.
     pub subcode: u8,
-    /// The octets of the message that came; 0 where its header has a fault.
+    /// The length of the received message; 0 where its header has a fault.
     pub len: u32,
-    /// How many attributes of an UPDATE that is accepted are discarded (RFC 7606).
+    /// The number of attributes of an accepted UPDATE that are discarded (RFC 7606).
     pub discarded: usize,
-    /// How many are left out by their types.
+    /// The number left out by their types.
     pub left_out: usize,
-    /// How many capabilities of an OPEN are left out.
+    /// The number of capabilities of an OPEN that are left out.
     pub capabilities: usize,
 }
 
@@ -72,7 +72,7 @@ pub(crate) fn set_of(types: &[u8]) -> OctetSet
     set
 }
 
-/// What is told where the stream ends before a message of so many octets, of which this is the outcome.
+/// The report where the stream ends before a message of this length and outcome.
 fn end_told(len: u16, verdict: u8, why: CleanFault) -> ToldCleaned
     ensures { result ≡ end_told len verdict why }
 {
@@ -93,7 +93,7 @@ fn end_told(len: u16, verdict: u8, why: CleanFault) -> ToldCleaned
     }
 }
 
-/// How many attributes are discarded.
+/// The number of attributes discarded.
 #[tactic(auto, using(crate::proofs::LeftOut::all_told))]
 fn discarded(outcome: &OutcomeView<'_>) -> usize
     ensures { result ≡ discarded_in (outcome_value outcome.now) }
@@ -104,7 +104,7 @@ fn discarded(outcome: &OutcomeView<'_>) -> usize
     }
 }
 
-/// How many are left out by their types.
+/// The number left out by their types.
 fn left_out(drops: &OctetSet, outcome: &OutcomeView<'_>) -> usize
     ensures { result ≡ left_out_in (has_octet drops.now) (outcome_value outcome.now) }
 {
@@ -114,7 +114,7 @@ fn left_out(drops: &OctetSet, outcome: &OutcomeView<'_>) -> usize
     }
 }
 
-/// How many capabilities are left out.
+/// The number of capabilities left out.
 fn capabilities(outcome: &OutcomeView<'_>) -> usize
     ensures { result ≡ caps_left_out_in (outcome_value outcome.now) }
 {
@@ -124,7 +124,7 @@ fn capabilities(outcome: &OutcomeView<'_>) -> usize
     }
 }
 
-/// What is told of a message of so many octets that is handed on.
+/// The report of a message of this length that is passed on.
 fn handed_told(drops: &OctetSet, len: u16, outcome: &OutcomeView<'_>) -> ToldCleaned
     ensures { result ≡ handed_told len (has_octet drops.now) (outcome_value outcome.now) }
 {
@@ -140,7 +140,7 @@ fn handed_told(drops: &OctetSet, len: u16, outcome: &OutcomeView<'_>) -> ToldCle
     }
 }
 
-/// What is told of a message, by what came of it.
+/// The report of a message, by its result.
 fn told(drops: &OctetSet, len: u16, outcome: &OutcomeView<'_>, what: Cleaned) -> ToldCleaned
     ensures { (ctx : Context) (handed : Result (List Message) CleanFault) (old new : List ℕ) → IsCleaned ctx handed old new what
         → result ≡ cleaned_told len (has_octet drops.now) (outcome_value outcome.now) handed }
@@ -151,7 +151,7 @@ fn told(drops: &OctetSet, len: u16, outcome: &OutcomeView<'_>, what: Cleaned) ->
     }
 }
 
-/// Writes what is handed on of a whole message to an empty page, and tells what came of it.
+/// Writes what is passed on of a whole message to an empty page, and reports the result.
 #[tactic(auto, using(crate::proofs::Cleanings::appended))]
 fn clean_frame(
     ctx: &Context,
@@ -175,7 +175,7 @@ fn clean_frame(
     told(drops, len, &outcome, what)
 }
 
-/// Writes what is handed on of a whole message, and tells what came of it.
+/// Writes what is passed on of a whole message, and reports the result.
 fn tell_frame(
     ctx: &Context,
     drops: &OctetSet,
@@ -198,7 +198,7 @@ fn tell_frame(
     write(page.as_slice(), buffer, len)
 }
 
-/// Tells that the stream ends before a header with a fault.
+/// Reports that the stream ends before a header with a fault.
 fn tell_fault(fault: HeadFault, buffer: &mut [u8], len: &mut usize, out: &mut ToldCleaned) -> u32
     ensures { (ctx : Context) (drops : ℕ → Bool) (first : Bool) → Hands ctx drops first (step.Fault fault)
         (record {
@@ -213,9 +213,9 @@ fn tell_fault(fault: HeadFault, buffer: &mut [u8], len: &mut usize, out: &mut To
     write(&[], buffer, len)
 }
 
-/// Writes what is handed on of the message that octets begin with, as one to three whole messages in their one written form, without unrecognised
-/// attributes of these types; or tells why the cleaned stream ends before it. What stands behind the message has no effect. `first` is whether it is the first
-/// one of its stream: 0 for no.
+/// Writes what is passed on of the message that octets begin with, as one to three whole messages in their one written
+/// form, without unrecognised attributes of these types; or reports why the cleaned stream ends before it. Octets after
+/// the message are ignored. `first` is whether it is the first one of its stream: 0 for no.
 #[unsafe(no_mangle)]
 pub extern "C" fn ristulva_clean(
     ctx: &SessionContext,

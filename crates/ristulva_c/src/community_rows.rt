@@ -15,11 +15,11 @@ use bgp_wire::are_octets;
 #[repr(C)]
 #[derive(Clone, Copy)]
 pub struct CommunityRow {
-    /// Where its message begins, in the octets that were handed in.
+    /// The offset of its message in the octets given.
     pub message: u64,
     /// The community (RFC 1997).
     pub value: u32,
-    /// Nothing: 0.
+    /// Unused: 0.
     pub reserved: u32,
 }
 
@@ -27,7 +27,7 @@ pub struct CommunityRow {
 #[repr(C)]
 #[derive(Clone, Copy)]
 pub struct LargeRow {
-    /// Where its message begins, in the octets that were handed in.
+    /// The offset of its message in the octets given.
     pub message: u64,
     /// The Global Administrator (RFC 8092, section 3).
     pub global: u32,
@@ -35,11 +35,11 @@ pub struct LargeRow {
     pub local1: u32,
     /// The second part.
     pub local2: u32,
-    /// Nothing: 0.
+    /// Unused: 0.
     pub reserved: u32,
 }
 
-/// The communities of a message that are to come.
+/// The remaining communities of a message.
 #[derive(Clone, Copy)]
 struct CommunitiesLeft<'a> {
     message: u64,
@@ -66,7 +66,7 @@ impl<'a> Rows for CommunitiesLeft<'a> {
     }
 }
 
-/// The large communities of a message that are to come.
+/// The remaining large communities of a message.
 #[derive(Clone, Copy)]
 struct LargeLeft<'a> {
     message: u64,
@@ -211,7 +211,7 @@ impl Batch for LargeCommunities {
     }
 }
 
-/// Tells the communities of messages that stand one behind another, in rows of a list, as many whole messages as have room in it.
+/// Writes the communities of messages in sequence to rows of a list, for as many whole messages as fit.
 #[unsafe(no_mangle)]
 pub extern "C" fn ristulva_communities_of(
     ctx: &SessionContext,
@@ -225,8 +225,8 @@ pub extern "C" fn ristulva_communities_of(
     take_all::<Communities>(ctx, octets, list, written, taken)
 }
 
-/// Tells the large communities of messages that stand one behind another, each of a message once, in rows of a list, as many whole messages as have
-/// room in it.
+/// Writes the large communities of messages in sequence, each of a message once, to rows of a list, for as many whole
+/// messages as fit.
 #[unsafe(no_mangle)]
 pub extern "C" fn ristulva_large_communities_of(
     ctx: &SessionContext,

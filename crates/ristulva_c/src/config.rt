@@ -1,4 +1,4 @@
-//! What a speaker is to be set to, as C says it.
+//! The settings of a speaker, in C's form.
 
 ghost use Rattle.std.specs.Prelude.{◌≡◌};
 ghost use Rattle.bgp_open.specs.Prelude.{config_of};
@@ -6,7 +6,7 @@ ghost use Rattle.ristulva_c.specs.Prelude.{settings_of};
 
 use bgp_open::{BadConfig, Config, Speaker};
 
-/// What one speaker of a session is to be set to.
+/// The settings of one speaker of a session.
 #[repr(C)]
 #[derive(Clone, Copy)]
 pub struct SpeakerConfig {
@@ -18,7 +18,7 @@ pub struct SpeakerConfig {
     pub id: [u8; 4],
     /// The Hold Time that it proposes, in seconds: 0 for none.
     pub hold: u16,
-    /// Whether it offers AS numbers of four octets (RFC 6793): 0 for no.
+    /// Whether it offers 4-octet AS numbers (RFC 6793): 0 for no.
     pub as4: u8,
     /// Whether it offers IPv4 unicast (RFC 4760): 0 for no.
     pub ip4: u8,
@@ -26,7 +26,7 @@ pub struct SpeakerConfig {
     pub ip6: u8,
 }
 
-/// The configuration that the libraries' calls take, where it is allowed.
+/// The configuration for the libraries' calls, where it is allowed.
 pub(crate) fn config_of(said: &SpeakerConfig) -> Result<Config, BadConfig>
     ensures { result ≡ config_of (settings_of said.now) }
 {

@@ -1,4 +1,4 @@
-//! What a session agreed on, as C says it.
+//! What a session agreed on, in C's form.
 
 ghost use Rattle.std.specs.Prelude.{◌≡◌};
 ghost use Rattle.ristulva_c.specs.Prelude.{context_of};
@@ -11,7 +11,7 @@ use bgp_open::Context;
 pub struct SessionContext {
     /// Both have the same AS number.
     pub internal: u8,
-    /// Both offer AS numbers of four octets (RFC 6793).
+    /// Both offer 4-octet AS numbers (RFC 6793).
     pub as4: u8,
     /// Both offer IPv4 unicast (RFC 4760).
     pub ip4: u8,
@@ -19,7 +19,7 @@ pub struct SessionContext {
     pub ip6: u8,
 }
 
-/// The context that the libraries' calls take. No verdict depends on the Hold Time.
+/// The context for the libraries' calls. No verdict depends on the Hold Time.
 pub(crate) fn context_of(said: &SessionContext) -> Context
     ensures { result ≡ context_of said.now }
 {

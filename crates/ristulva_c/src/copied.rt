@@ -1,9 +1,9 @@
-//! Octets into a buffer of the caller's.
+//! Copying octets into the caller's buffer.
 
 ghost use Rattle.std.specs.Prelude.{◌≡◌, length, nat_le};
 ghost use Rattle.ristulva_c.specs.Prelude.{copied};
 
-/// Copies octets to the front of a buffer, where it has room. Answers whether it had.
+/// Copies octets to the beginning of a buffer, where it has room. Answers whether it had.
 pub(crate) fn copy_into(octets: &[u8], buffer: &mut [u8]) -> bool
     ensures fits { result ≡ nat_le (length octets.now) (length buffer.old) }
     ensures copied { buffer.new ≡ copied octets.now buffer.old }

@@ -1,4 +1,4 @@
-//! The messages of a stream whose octets come in pieces.
+//! The messages of a stream whose octets arrive in pieces.
 
 ghost use Rattle.std.specs.Prelude.{◌≡◌, ◌+◌, ◌<◌, ◌≤◌, ◌⊎◌, false, [], ◌++◌, Some, length, take};
 ghost use Rattle.bgp_open.specs.declared.context.Context.{Context};
@@ -20,7 +20,7 @@ use bgp_update::UpdateView;
 use bgp_wire::are_octets;
 use std::alloc::Global;
 
-/// The most octets of a NOTIFICATION's Data field.
+/// The greatest length of a NOTIFICATION's Data field.
 const INFO_MAX: usize = 4075;
 
 /// Makes a decoder at the beginning of a stream, where the handle has none.
@@ -56,7 +56,7 @@ pub extern "C" fn ristulva_decoder_free(alloc: Global, decoder: &mut DecoderHand
     }
 }
 
-/// Tells how many octets of an incomplete message a decoder holds.
+/// Reports the length of the incomplete message that a decoder holds.
 #[unsafe(no_mangle)]
 pub extern "C" fn ristulva_decoder_held(
     alloc: Global,
@@ -74,7 +74,7 @@ pub extern "C" fn ristulva_decoder_held(
     OK
 }
 
-/// The octets that are held once so many of the piece are fed: nothing is held, or nothing is fed.
+/// The octets that are held once `count` of the piece are fed: nothing is held, or nothing is fed.
 fn held_by<'a>(decoder: &'a Decoder, piece: &'a [u8], count: usize) -> &'a [u8]
     requires within { count ≤ length piece.now }
     requires either { (count ≡ 0) ⊎ (decoder.now.held ≡ []) }
@@ -87,7 +87,7 @@ fn held_by<'a>(decoder: &'a Decoder, piece: &'a [u8], count: usize) -> &'a [u8]
     octets
 }
 
-/// Tells what octets are, a whole message or a header with a fault, of which the outcome is known, and copies the octets.
+/// Reports octets that are a whole message or a header with a fault, by their outcome, and copies them.
 fn tell_whole(
     octets: &[u8],
     outcome: &OutcomeView<'_>,
@@ -114,8 +114,8 @@ fn tell_whole(
     }
 }
 
-/// Tells what a decoder gives of the octets that it holds and a piece: how many of the piece are fed to it then, and where it goes on.
-/// None where the piece is to be fed.
+/// Reports what a decoder gives of its held octets and a piece: the number of octets of the piece fed to it then, and
+/// where it continues. None where the piece is to be fed.
 fn tell_found(
     decoder: &Decoder,
     piece: &[u8],
@@ -143,7 +143,7 @@ fn tell_found(
     }
 }
 
-/// Feeds a piece, where a look found nothing to tell, and tells what is held then.
+/// Feeds a piece, where a look found nothing, and reports what is held then.
 fn feed(
     decoder: &mut Decoder,
     piece: &[u8],
@@ -191,7 +191,8 @@ fn pull(
     }
 }
 
-/// Takes octets of a piece until a message is whole, and tells its outcome and its octets. What is held comes first.
+/// Consumes octets of a piece until a message is whole, and reports its outcome and its octets. What is held comes
+/// first.
 #[unsafe(no_mangle)]
 pub extern "C" fn ristulva_decoder_pull(
     alloc: Global,

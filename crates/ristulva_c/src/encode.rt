@@ -13,7 +13,7 @@ use bgp_update::{Found, Update, UpdateView, WriteFault, into_narrowed};
 use bgp_wire::are_octets;
 use std::alloc::{AllocError, Global};
 
-/// What comes of a body.
+/// The result of a body.
 #[derive(Drop)]
 pub(crate) enum Coded {
     /// It isn't accepted whole.
@@ -39,7 +39,7 @@ fn written(alloc: Global, ctx: &Context, update: &Update) -> Coded
     }
 }
 
-/// The same of one that is given up: in a call of its own, since proofs pay for each place where an UPDATE is dropped.
+/// As `written`, and drops the UPDATE: in a call of its own, since each drop of an UPDATE adds to the proofs.
 pub(crate) fn written_last(alloc: Global, ctx: &Context, update: Update) -> Coded
     ensures { IsCoded result (Some (written_of ctx.now update)) }
 {
@@ -57,7 +57,7 @@ fn rewritten(alloc: Global, ctx: &Context, view: &UpdateView<'_>) -> Coded
     }
 }
 
-/// The same, where it has no note.
+/// As `rewritten`, where it has no note.
 fn whole(alloc: Global, ctx: &Context, view: &UpdateView<'_>) -> Coded
     requires { written_of ctx.now (update_value view.now) ≡ encoded_of ctx.now (update_value view.now) }
     ensures { IsCoded result (option_map (encoded_of ctx.now) (without_notes (update_value view.now) (notes_value view.now))) }
@@ -68,7 +68,7 @@ fn whole(alloc: Global, ctx: &Context, view: &UpdateView<'_>) -> Coded
     }
 }
 
-/// What comes of a body.
+/// The result of a body.
 fn encoded(alloc: Global, ctx: &Context, body: &[u8]) -> Coded
     requires { length body.now ≤ 4077 }
     ensures { IsCoded result (option_map (encoded_of ctx.now) (taken_of (verdict_of ctx.now body.now))) }
@@ -81,7 +81,7 @@ fn encoded(alloc: Global, ctx: &Context, body: &[u8]) -> Coded
     }
 }
 
-/// Tells what comes of a body.
+/// Writes the result of a body.
 pub(crate) fn tell(coded: Coded, buffer: &mut [u8], len: &mut usize) -> u32
     ensures { (found : Option (Option (List ℕ))) → IsCoded coded found → Writes found (record { status = result; before = buffer.old; behind = buffer.new; len_before = len.old; len_behind = len.new }) }
 {
@@ -93,7 +93,7 @@ pub(crate) fn tell(coded: Coded, buffer: &mut [u8], len: &mut usize) -> u32
     }
 }
 
-/// Writes the one written form of the UPDATE that a body is in some spelling, as a whole message.
+/// Writes an UPDATE, given as a body in any form, in its one written form, as a whole message.
 #[unsafe(no_mangle)]
 pub extern "C" fn ristulva_encode(
     alloc: Global,
@@ -117,7 +117,7 @@ pub(crate) fn with_as4(as4: bool, ctx: &Context) -> Context
     Context { as4, ..*ctx }
 }
 
-/// An UPDATE as a speaker with AS numbers of two octets is told it.
+/// An UPDATE as sent to a speaker with 2-octet AS numbers.
 fn told(alloc: Global, update: Update) -> Result<Update, AllocError>
     requires { HasNoAs4 update.attrs }
     ensures { IfOk result (λ it. it ≡ narrowed_update update) }
@@ -130,7 +130,7 @@ fn told(alloc: Global, update: Update) -> Result<Update, AllocError>
     })
 }
 
-/// The message of an UPDATE that is accepted, as a speaker with AS numbers of two octets is told it, where it can be written.
+/// The message of an UPDATE that is accepted, as sent to a speaker with 2-octet AS numbers, where it can be written.
 fn renarrowed(alloc: Global, ctx: &Context, view: &UpdateView<'_>) -> Coded
     requires plain { HasNoAs4 (update_value view.now).attrs }
     requires wide { ctx.now.as4 ≡ true }
@@ -147,7 +147,7 @@ fn renarrowed(alloc: Global, ctx: &Context, view: &UpdateView<'_>) -> Coded
     }
 }
 
-/// The same, where it has no note.
+/// As `renarrowed`, where it has no note.
 fn whole_narrowed(alloc: Global, ctx: &Context, view: &UpdateView<'_>) -> Coded
     requires plain { HasNoAs4 (update_value view.now).attrs }
     requires wide { ctx.now.as4 ≡ true }
@@ -160,7 +160,7 @@ fn whole_narrowed(alloc: Global, ctx: &Context, view: &UpdateView<'_>) -> Coded
     }
 }
 
-/// What comes of a body of a session with AS numbers of four octets.
+/// The result of a body of a session with 4-octet AS numbers.
 fn narrowed(alloc: Global, ctx: &Context, body: &[u8]) -> Coded
     requires wide { ctx.now.as4 ≡ true }
     requires long { length body.now ≤ 4077 }
@@ -174,7 +174,7 @@ fn narrowed(alloc: Global, ctx: &Context, body: &[u8]) -> Coded
     }
 }
 
-/// Writes the UPDATE that a body is in some spelling, of a session with AS numbers of four octets, as a speaker with two is told it
+/// Writes an UPDATE of a session with 4-octet AS numbers, given as a body in any form, as sent to a 2-octet speaker
 /// (RFC 6793), as a whole message.
 #[unsafe(no_mangle)]
 pub extern "C" fn ristulva_narrow(

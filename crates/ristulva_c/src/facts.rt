@@ -1,4 +1,4 @@
-//! What everybody asks of an UPDATE, of the attributes that are kept.
+//! Common attributes of an UPDATE, of those that are kept.
 
 ghost use Rattle.std.specs.Prelude.{◌≡◌, ◌+◌, ◌≤◌, length, option_map, is_some};
 ghost use Rattle.bgp_frame.specs.Prelude.{IsLength, message_in};
@@ -28,7 +28,7 @@ use bgp_wire::are_octets;
 pub struct Hops {
     /// NEXT_HOP, an IPv4 address.
     pub next_hop: [u8; 4],
-    /// The next hop of MP_REACH_NLRI: an IPv4 address with zeros behind it, or a global IPv6 address.
+    /// The next hop of MP_REACH_NLRI: an IPv4 address with zeros after it, or a global IPv6 address.
     pub mp_next_hop: [u8; 16],
     /// The link-local address of MP_REACH_NLRI.
     pub link_local: [u8; 16],
@@ -40,7 +40,8 @@ pub struct Hops {
     pub has_link_local: u8,
 }
 
-/// Where paths and communities lie in the octets, and the AS that the route came from. Each flag is 1 where the attribute is kept, else 0.
+/// The offsets of paths and communities in the octets, and the origin AS of the route. Each flag is 1 where the
+/// attribute is kept, else 0.
 #[repr(C)]
 #[derive(Clone, Copy)]
 pub struct Paths {
@@ -66,7 +67,7 @@ pub struct Paths {
     pub has_origin_as: u8,
 }
 
-/// What everybody asks of an UPDATE, of the attributes that are kept. Each flag is 1 for yes, else 0.
+/// Common attributes of an UPDATE, of those that are kept. Each flag is 1 for yes, else 0.
 #[repr(C)]
 #[derive(Clone, Copy)]
 pub struct Facts {
@@ -82,7 +83,7 @@ pub struct Facts {
     pub aggregator_as: u32,
     /// Its address.
     pub aggregator_address: [u8; 4],
-    /// How many attributes of unrecognised types there are.
+    /// The number of attributes of unrecognised types.
     pub unrecognised: u32,
     /// ORIGIN: 0 IGP, 1 EGP, 2 INCOMPLETE.
     pub origin: u8,
@@ -206,7 +207,7 @@ fn origin_number(origin: Option<Origin>) -> u8
     }
 }
 
-/// What is told of an UPDATE that is accepted, in the message of this body.
+/// The facts of an UPDATE that is accepted, in the message of this body.
 fn facts_told(body: &[u8], view: &UpdateView<'_>) -> Facts
     requires { length body.now ≤ 4077 }
     ensures { result ≡ facts_told (parts_of body.now) (update_value view.now).attrs }
@@ -231,7 +232,7 @@ fn facts_told(body: &[u8], view: &UpdateView<'_>) -> Facts
     }
 }
 
-/// Tells the facts of a message, where it is an UPDATE that is accepted.
+/// Writes the facts of a message, where it is an UPDATE that is accepted.
 fn tell_facts(ctx: &SessionContext, frame: Frame<'_>, out: &mut Facts) -> u32
     requires { IsLength frame.kind (19 + length frame.body.now) }
     ensures { TellsFacts (parts_of frame.entry.body.now) (attrs_in (out_of (context_of ctx.now) (message_in frame.entry))) result out.old out.new }
@@ -247,8 +248,8 @@ fn tell_facts(ctx: &SessionContext, frame: Frame<'_>, out: &mut Facts) -> u32
     }
 }
 
-/// Tells what everybody asks of the UPDATE that octets begin with, where it is accepted, of the attributes that are kept. What stands behind it has no
-/// effect.
+/// Reports common attributes of the UPDATE that octets begin with, where it is accepted, of those that are kept. Octets
+/// after it are ignored.
 #[unsafe(no_mangle)]
 pub extern "C" fn ristulva_facts(ctx: &SessionContext, octets: &[u8], out: &mut Facts) -> u32
     ensures { AreFacts (context_of ctx.now) octets.now result out.old out.new }

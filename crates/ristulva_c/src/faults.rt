@@ -1,4 +1,4 @@
-//! The place of the fault of a message, and of what a note on it is about.
+//! The octets of the fault of a message, and those that a note on it is about.
 
 ghost use Rattle.std.specs.Prelude.{◌≡◌, ◌≤◌, ℕ, List, length, drop};
 ghost use Rattle.bgp_fields.specs.Prelude.{note_place};
@@ -15,7 +15,7 @@ use bgp_fields::{header_span, message_span, note_span};
 use bgp_frame::{Step, front};
 use bgp_update::Note;
 
-/// A place as it is told: none is a span of no octets.
+/// A span as reported: empty where there is none.
 fn place_told(place: Option<bgp_fields::Span>) -> Span
     ensures { result ≡ place_told place }
 {
@@ -28,7 +28,8 @@ fn place_told(place: Option<bgp_fields::Span>) -> Span
     }
 }
 
-/// Tells for which octets the message that octets begin with, or a header with a fault, is answered by a reset: none where it isn't.
+/// Reports the octets for which the message that octets begin with, or a header with a fault, is answered by a reset:
+/// none where it isn't.
 #[unsafe(no_mangle)]
 pub extern "C" fn ristulva_fault(ctx: &SessionContext, octets: &[u8], out: &mut Span) -> u32
     ensures { IsFault (context_of ctx.now) octets.now (record { status = result; before = out.old; behind = out.new }) }
@@ -57,18 +58,18 @@ fn noted_span(message: &[u8], told: &ToldNote) -> Option<bgp_fields::Span>
     if told.at > 4096 {
         return None;
     }
-    // Any reason but that the attribute is missing.
+    // Any reason but a missing attribute.
     let why = Why::Flags;
     let at = (told.at - 19) as u16;
     let kind = told.kind;
     note_span(message, &Note { at, kind, why })
 }
 
-/// Tells which octets of the message that octets begin with a note on it is about.
+/// Reports which octets of the message that octets begin with a note on it is about.
 #[unsafe(no_mangle)]
 pub extern "C" fn ristulva_note_span(octets: &[u8], note: &ToldNote, out: &mut Span) -> u32
     ensures place { IsNotePlace octets.now note.now (record { status = result; before = out.old; behind = out.new }) }
-    // Of each note on a message it is the place that `bgp_fields` has for it.
+    // For each note on a message it is the span that `bgp_fields` gives.
     ensures notes { (n : NoteValue) (message : List ℕ) → noted_place message (note_told n) ≡ note_place (drop 19 message) n }
 {
     match front(octets) {

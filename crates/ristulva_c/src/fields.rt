@@ -1,4 +1,4 @@
-//! The fields of a message, and the places of its faults.
+//! The fields of a message, and the octets of its faults.
 
 ghost use Rattle.std.specs.Prelude.{◌≡◌, ◌≤◌, ◌++◌, length, map, take, drop, nat_le};
 ghost use Rattle.bgp_fields.specs.Prelude.{fields_left};
@@ -11,15 +11,15 @@ use crate::status::{INCOMPLETE, OK, ROOM};
 use bgp_fields::{Field, FieldIter, Group, Listed};
 use bgp_frame::{Step, front};
 
-/// A field of a message: octets that have one meaning together.
+/// A field of a message: octets with one meaning.
 #[repr(C)]
 #[derive(Clone, Copy)]
 pub struct ToldField {
     /// Its offset in the message.
     pub at: u16,
-    /// How many octets it has: at least one.
+    /// Its length: at least one octet.
     pub len: u16,
-    /// Where its attribute, parameter or capability begins; 0 for none.
+    /// The offset of its attribute, parameter or capability; 0 for none.
     pub group: u16,
     /// What it is: 1 to 44.
     pub kind: u8,
@@ -27,7 +27,7 @@ pub struct ToldField {
     pub code: u8,
 }
 
-/// So many octets at the front.
+/// The first `len` octets.
 pub(crate) fn first(octets: &[u8], len: usize) -> &[u8]
     ensures { result.now ≡ take len octets.now }
 {
@@ -70,7 +70,7 @@ impl Listed for ToldField {
     }
 }
 
-/// How many fields there are.
+/// The number of fields.
 fn count_fields(fields: FieldIter<'_>) -> usize
     requires { length (fields_left fields) ≤ 4096 }
     ensures { result ≡ length (fields_left fields.entry) }
@@ -83,7 +83,7 @@ fn count_fields(fields: FieldIter<'_>) -> usize
     count
 }
 
-/// Whether there is room for all fields of so many octets, of which each has one at least.
+/// Whether there is room for all fields of this number of octets, each of at least one.
 fn fit(octets: usize, fields: FieldIter<'_>, room: usize) -> bool
     requires fields { length (fields_left fields) ≤ octets }
     requires octets { octets ≤ 4096 }

@@ -1,4 +1,4 @@
-//! What stands at the front of octets.
+//! What octets begin with.
 
 ghost use Rattle.std.specs.Prelude.{◌≡◌};
 ghost use Rattle.bgp_frame.specs.Prelude.{wanted, Waits, ShowsFront};
@@ -19,7 +19,7 @@ pub const MESSAGE: u8 = 1;
 /// A header with a fault.
 pub const FAULT: u8 = 2;
 
-/// What stands at the front of octets (RFC 4271, sections 4.1 and 6.1).
+/// What octets begin with (RFC 4271, sections 4.1 and 6.1).
 #[repr(C)]
 #[derive(Clone, Copy)]
 pub struct ToldFront {
@@ -31,10 +31,10 @@ pub struct ToldFront {
     pub code: u8,
     /// Its subcode.
     pub subcode: u8,
-    /// The octets of the message, where it is one; where it is less than one, how many it will have at least: 19, or what its header
-    /// says where that is there; else 0.
+    /// The length of the message, where it is one; where it is less than one, the least length that it will have: 19,
+    /// or what its header says where that is whole; else 0.
     pub len: u32,
-    /// Where the data of that NOTIFICATION lie: the field of the header that is at fault.
+    /// The data of that NOTIFICATION: the faulty field of the header.
     pub info: Span,
 }
 
@@ -56,8 +56,8 @@ fn fault_told(fault: HeadFault) -> ToldFront
     }
 }
 
-/// How many octets the message at the front has, or its header where that isn't there.
-#[tactic(auto, using(crate::proofs::Wanted::wanted_is_length, bgp_frame::proofs::FrameLemmas::wanted_under))]
+/// The length of the first message, or of its header where that is incomplete.
+#[tactic(auto, using(crate::proofs::Wanted::wanted_is_length, crate::proofs::Wanted::wanted_is_header))]
 fn wanted(octets: &[u8]) -> u32
     requires { Waits octets.now }
     ensures { result ≡ wanted octets.now }
@@ -93,7 +93,8 @@ fn step_told(octets: &[u8], step: Step<'_>) -> ToldFront
     }
 }
 
-/// What octets begin with: less than a message, a message, or a header with a fault. What stands behind a message has no effect.
+/// Classifies what octets begin with: less than a message, a message, or a header with a fault. Octets after a message
+/// are ignored.
 #[unsafe(no_mangle)]
 pub extern "C" fn ristulva_front(octets: &[u8], out: &mut ToldFront) -> u32
     ensures status { result ≡ OK }

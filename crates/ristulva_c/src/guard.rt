@@ -1,4 +1,4 @@
-//! A guard's life: it is made, told what happens, hears octets, and is freed.
+//! A guard's life: it is made, gets events, receives octets, and is freed.
 
 ghost use Rattle.std.specs.Prelude.{◌≡◌, Some, option_map};
 ghost use Rattle.ristulva_c.specs.Prelude.{side_of, rule_of, came_told, GoesOn, IsStopped, IsTicked, GuardHears, HearsOf};
@@ -16,24 +16,24 @@ use std::alloc::Global;
 /// No message is whole yet, or nothing is read of the side.
 pub const CAME_NOTHING: u8 = 0;
 
-/// A message was handed on: as it came, or changed.
+/// A message was passed on: unchanged, or changed.
 pub const CAME_HANDED_ON: u8 = 1;
 
 /// The side was answered by a NOTIFICATION, and the guard has ended.
 pub const CAME_ANSWERED: u8 = 2;
 
-/// Nothing was handed on of a message: of an UPDATE without routes, or whose routes stay inside.
+/// Nothing was passed on of a message: of an UPDATE without routes, or whose routes stay inside.
 pub const CAME_DROPPED: u8 = 3;
 
-/// What came of the octets that a side sent.
+/// The result of the octets that a side sent.
 #[repr(C)]
 #[derive(Clone, Copy)]
 pub struct ToldCame {
     /// `CAME_NOTHING` to `CAME_DROPPED`.
     pub what: u8,
-    /// The type of the message that was handed on or dropped, 1 to 4; else 0.
+    /// The type of the message that was passed on or dropped, 1 to 4; else 0.
     pub kind: u8,
-    /// Whether what was handed on has the same octets; else 0.
+    /// Whether what was passed on has the same octets; else 0.
     pub same: u8,
     /// The code of the NOTIFICATION that answers the side; else 0.
     pub code: u8,
@@ -41,7 +41,7 @@ pub struct ToldCame {
     pub subcode: u8,
 }
 
-/// What came of octets, as it is told.
+/// The result of octets, in numbers.
 fn came_told(came: Came) -> ToldCame
     ensures { result ≡ came_told came }
 {
@@ -60,7 +60,7 @@ fn came_told(came: Came) -> ToldCame
     }
 }
 
-/// Makes a guard of which neither side stands yet, where the handle has none.
+/// Makes a guard of which neither side is up yet, where the handle has none.
 #[unsafe(no_mangle)]
 pub extern "C" fn ristulva_guard_new(
     alloc: Global,
@@ -97,7 +97,7 @@ pub extern "C" fn ristulva_guard_free(alloc: Global, guard: &mut GuardHandle) ->
     }
 }
 
-/// Tells a guard what happens to a side.
+/// Reports an event of a side to a guard.
 #[unsafe(no_mangle)]
 pub extern "C" fn ristulva_guard_event(
     alloc: Global,
@@ -121,7 +121,7 @@ pub extern "C" fn ristulva_guard_event(
     OK
 }
 
-/// Tells a guard that a second has gone by.
+/// Reports to a guard that a second has passed.
 #[unsafe(no_mangle)]
 pub extern "C" fn ristulva_guard_tick(alloc: Global, guard: &mut GuardHandle) -> u32
     ensures { IsTicked guard.old.value result guard.new.value }
@@ -134,7 +134,7 @@ pub extern "C" fn ristulva_guard_tick(alloc: Global, guard: &mut GuardHandle) ->
     OK
 }
 
-/// Tells a guard that its owner ends the session.
+/// Reports to a guard that its owner ends the session.
 #[unsafe(no_mangle)]
 pub extern "C" fn ristulva_guard_stop(alloc: Global, guard: &mut GuardHandle) -> u32
     ensures { IsStopped guard.old.value result guard.new.value }
@@ -147,7 +147,7 @@ pub extern "C" fn ristulva_guard_stop(alloc: Global, guard: &mut GuardHandle) ->
     OK
 }
 
-/// Lets a guard hear octets of a side.
+/// Passes octets of a side to a guard.
 fn hear(guard: &mut Guard, side: Side, octets: &[u8], taken: &mut usize, came: &mut ToldCame)
     ensures { HearsOf side guard.old octets.now (record { status = OK; old = Some guard.old; new = Some guard.new; taken_before = taken.old; taken_behind = taken.new; came_before = came.old; came_behind = came.new }) }
 {
@@ -156,7 +156,7 @@ fn hear(guard: &mut Guard, side: Side, octets: &[u8], taken: &mut usize, came: &
     *came = came_told(what);
 }
 
-/// Takes octets of a side up to the end of a message, and tells how many it took, and what came of them.
+/// Consumes octets of a side up to the end of a message, and reports the number consumed, and the result.
 #[unsafe(no_mangle)]
 pub extern "C" fn ristulva_guard_hear(
     alloc: Global,

@@ -46,7 +46,7 @@ impl SessionHandle {
         SessionHandle { body: null_mut() }
     }
 
-    /// A handle that has what a box is made of.
+    /// A handle made of the parts of a box.
     fn of_parts(parts: BoxParts<Session, Global>) -> SessionHandle
         ensures { result.value ≡ Some parts.value }
     {
@@ -56,7 +56,7 @@ impl SessionHandle {
         }
     }
 
-    /// What the box is made of, where there is one.
+    /// The parts of the box, where there is one.
     fn into_parts(self, alloc: Global) -> Option<BoxParts<Session, Global>>
         ensures { option_map (λ parts. parts.value) result ≡ self.value }
     {
@@ -92,7 +92,7 @@ impl SessionHandle {
     }
 }
 
-// One thread after another may have the handle.
+// The handle may move between threads.
 unsafe impl Send for SessionHandle {}
 
 /// A decoder, or none: then it is null.
@@ -116,7 +116,7 @@ impl DecoderHandle {
         DecoderHandle { body: null_mut() }
     }
 
-    /// A handle that has what a box is made of.
+    /// A handle made of the parts of a box.
     fn of_parts(parts: BoxParts<Decoder, Global>) -> DecoderHandle
         ensures { result.value ≡ Some parts.value }
     {
@@ -126,7 +126,7 @@ impl DecoderHandle {
         }
     }
 
-    /// What the box is made of, where there is one.
+    /// The parts of the box, where there is one.
     fn into_parts(self, alloc: Global) -> Option<BoxParts<Decoder, Global>>
         ensures { option_map (λ parts. parts.value) result ≡ self.value }
     {
@@ -162,7 +162,7 @@ impl DecoderHandle {
     }
 }
 
-// One thread after another may have the handle.
+// The handle may move between threads.
 unsafe impl Send for DecoderHandle {}
 
 /// A guard, or none: then it is null.
@@ -186,7 +186,7 @@ impl GuardHandle {
         GuardHandle { body: null_mut() }
     }
 
-    /// A handle that has what a box is made of.
+    /// A handle made of the parts of a box.
     fn of_parts(parts: BoxParts<Guard, Global>) -> GuardHandle
         ensures { result.value ≡ Some parts.value }
     {
@@ -196,7 +196,7 @@ impl GuardHandle {
         }
     }
 
-    /// What the box is made of, where there is one.
+    /// The parts of the box, where there is one.
     fn into_parts(self, alloc: Global) -> Option<BoxParts<Guard, Global>>
         ensures { option_map (λ parts. parts.value) result ≡ self.value }
     {
@@ -232,12 +232,12 @@ impl GuardHandle {
     }
 }
 
-// One thread after another may have the handle.
+// The handle may move between threads.
 unsafe impl Send for GuardHandle {}
 
 fn crosses<T: Send>() {}
 
-// What asks for those proofs: nothing is done.
+// Requires those proofs; does nothing.
 #[allow(dead_code)]
 fn crosses_threads() {
     crosses::<SessionHandle>();

@@ -1,4 +1,4 @@
-//! What a session hears.
+//! What a session receives.
 
 ghost use Rattle.std.specs.Prelude.{◌≡◌, ◌≤◌, ◌⊎◌, Some, length, take, drop};
 ghost use Rattle.bgp_frame.specs.Prelude.{notification_of_view};
@@ -16,23 +16,23 @@ use bgp_machine::{ActionViews, Heard, Look, Next, Session};
 use bgp_update::UpdateView;
 use std::alloc::Global;
 
-/// What a session heard: a message, or a header with a fault.
+/// What a session received: a message, or a header with a fault.
 #[repr(C)]
 #[derive(Clone, Copy)]
 pub struct ToldHeard {
     /// `OPEN`, `UPDATE`, `NOTIFICATION`, `KEEPALIVE`, `WITHDRAW` or `RESET`.
     pub heard: u8,
-    /// The code of the NOTIFICATION that came or that ends the session; else 0.
+    /// The code of the NOTIFICATION that was received or that ends the session; else 0.
     pub code: u8,
     /// Its subcode.
     pub subcode: u8,
-    /// How many octets were taken.
+    /// The number of octets consumed.
     pub len: u32,
-    /// Where the parts of an UPDATE lie, where it doesn't end the session.
+    /// The parts of an UPDATE, where it doesn't end the session.
     pub parts: ToldParts,
 }
 
-/// The number of what is heard.
+/// The number of what is received.
 fn number_of_heard(heard: &Heard<'_>) -> u8
     ensures { result ≡ number_of_heard heard.now }
 {
@@ -46,7 +46,7 @@ fn number_of_heard(heard: &Heard<'_>) -> u8
     }
 }
 
-/// The NOTIFICATION that came or that ends the session: nothing where there is none.
+/// The NOTIFICATION that was received or that ends the session: zeros where there is none.
 fn said_in<'a>(heard: &'a Heard<'a>) -> NotificationView<'a>
     ensures { notification_of_view result ≡ said_in heard.now }
 {
@@ -64,7 +64,7 @@ fn said_in<'a>(heard: &'a Heard<'a>) -> NotificationView<'a>
     }
 }
 
-/// Where the parts of what is heard lie, in the message that has this body.
+/// The spans of the parts of what is received, in the message with this body.
 fn parts_heard(heard: &Heard<'_>, body: &[u8]) -> ToldParts
     requires { length body.now ≤ 4077 }
     ensures { result ≡ parts_heard heard.now body.now }
@@ -75,7 +75,7 @@ fn parts_heard(heard: &Heard<'_>, body: &[u8]) -> ToldParts
     }
 }
 
-/// The body of the message of so many octets that octets begin with.
+/// The body of the message of length `len` that octets begin with.
 fn body_of(octets: &[u8], len: usize) -> &[u8]
     requires short { length octets.now ≤ 4096 }
     requires within { len ≤ length octets.now }
@@ -90,7 +90,7 @@ fn body_of(octets: &[u8], len: usize) -> &[u8]
     body
 }
 
-/// What is heard, as it is told.
+/// What is received, in numbers.
 fn heard_told(look: &Look<'_>, octets: &[u8]) -> ToldHeard
     requires short { length octets.now ≤ 4096 }
     requires within { look.now.taken ≤ length octets.now }
@@ -108,7 +108,7 @@ fn heard_told(look: &Look<'_>, octets: &[u8]) -> ToldHeard
     }
 }
 
-/// What octets begin with, as far as the longest message reaches.
+/// The first octets, at most the length of the longest message.
 fn longest(octets: &[u8]) -> &[u8]
     ensures front { result.now ≡ take 4096 octets.now }
     ensures short { length result.now ≤ 4096 }
@@ -120,7 +120,8 @@ fn longest(octets: &[u8]) -> &[u8]
     front
 }
 
-/// Tells what the message that octets begin with makes a session do, and where it goes on then: none where they are less than a message.
+/// Reports what the message that octets begin with makes a session do, and where it continues then: none where they are
+/// less than a message.
 fn tell_found(
     session: &Session,
     octets: &[u8],
@@ -144,7 +145,7 @@ fn tell_found(
     Some(next)
 }
 
-/// Lets a session hear the message that octets begin with.
+/// Passes the message that octets begin with to a session.
 fn hear(
     session: &mut Session,
     octets: &[u8],
@@ -170,7 +171,7 @@ fn hear(
     }
 }
 
-/// Lets a session hear the message, or the header with a fault, that octets begin with, and tells what is to be done.
+/// Passes the message, or the header with a fault, that octets begin with to a session, and reports what is to be done.
 #[unsafe(no_mangle)]
 pub extern "C" fn ristulva_session_hear(
     alloc: Global,

@@ -23,7 +23,7 @@ pub const OPEN: u8 = 1;
 /// An UPDATE is accepted.
 pub const UPDATE: u8 = 2;
 
-/// A NOTIFICATION came.
+/// A NOTIFICATION was received.
 pub const NOTIFICATION: u8 = 3;
 
 /// A KEEPALIVE is accepted.
@@ -43,15 +43,15 @@ pub struct Verdict {
     pub verdict: u8,
     /// The type of the message, 1 to 4; 0 where its header has a fault.
     pub kind: u8,
-    /// The code of the NOTIFICATION that came or that ends the session; else 0.
+    /// The code of the NOTIFICATION that was received or that ends the session; else 0.
     pub code: u8,
     /// Its subcode.
     pub subcode: u8,
-    /// The octets of the message; 0 where its header has a fault.
+    /// The length of the message; 0 where its header has a fault.
     pub len: u32,
-    /// The octets of that NOTIFICATION's data.
+    /// The length of that NOTIFICATION's data.
     pub info_len: u32,
-    /// Where the parts of an UPDATE lie, where its lengths leave room for each other.
+    /// The parts of an UPDATE, where its lengths leave room for each other.
     pub parts: ToldParts,
 }
 
@@ -76,7 +76,7 @@ pub(crate) fn code_of(kind: Kind) -> u8
     kind as u8
 }
 
-/// The NOTIFICATION that came or that ends the session: nothing where there is none.
+/// The NOTIFICATION that was received or that ends the session: zeros where there is none.
 fn said_by<'a>(outcome: &OutcomeView<'a>) -> NotificationView<'a>
     ensures { notification_of_view result ≡ said_by (outcome_value outcome.now) }
 {
@@ -91,7 +91,7 @@ fn said_by<'a>(outcome: &OutcomeView<'a>) -> NotificationView<'a>
     }
 }
 
-/// Tells an outcome, and copies the data of its NOTIFICATION.
+/// Writes an outcome, and copies the data of its NOTIFICATION.
 pub(crate) fn tell(
     kind: u8,
     len: u16,
@@ -118,7 +118,7 @@ pub(crate) fn tell(
     if copy_into(said.info, info) { OK } else { ROOM }
 }
 
-/// Where the parts of a message lie, where it has some.
+/// The spans of the parts of a message, where it has some.
 fn found_parts(frame: &Frame<'_>) -> Option<ToldParts>
     requires { length frame.now.body.now ≤ 4077 }
     ensures { MatchOption result (parts_at frame.now.kind frame.now.body.now ≡ parts_told None) (λ told. told ≡ parts_at frame.now.kind frame.now.body.now) }
@@ -129,7 +129,7 @@ fn found_parts(frame: &Frame<'_>) -> Option<ToldParts>
     }
 }
 
-/// Where the parts of a message lie.
+/// The spans of the parts of a message.
 pub(crate) fn parts_at(frame: &Frame<'_>) -> ToldParts
     requires { length frame.now.body.now ≤ 4077 }
     ensures { result ≡ parts_at frame.now.kind frame.now.body.now }
@@ -137,7 +137,7 @@ pub(crate) fn parts_at(frame: &Frame<'_>) -> ToldParts
     found_parts(frame).unwrap_or(no_parts())
 }
 
-/// Tells the outcome of a whole message whose parts lie there.
+/// Writes the outcome of a whole message with these parts.
 #[inline(always)]
 fn tell_with(
     ctx: &SessionContext,
@@ -157,7 +157,7 @@ fn tell_with(
     tell(kind, len, parts, &outcome, info, out)
 }
 
-/// The same of a message that has none.
+/// Writes the outcome of a whole message without parts.
 #[inline(never)]
 fn tell_without(ctx: &SessionContext, frame: Frame<'_>, info: &mut [u8], out: &mut Verdict) -> u32
     requires allowed { IsLength frame.kind (19 + length frame.body.now) }
@@ -167,7 +167,8 @@ fn tell_without(ctx: &SessionContext, frame: Frame<'_>, info: &mut [u8], out: &m
     tell_with(ctx, frame, no_parts(), info, out)
 }
 
-/// Tells the outcome of a whole message. What has no parts is judged elsewhere, so that the lengths of an UPDATE are looked at once.
+/// Writes the outcome of a whole message. One without parts is judged elsewhere, so that the lengths of an UPDATE are
+/// read once.
 fn tell_frame(ctx: &SessionContext, frame: Frame<'_>, info: &mut [u8], out: &mut Verdict) -> u32
     requires { IsLength frame.kind (19 + length frame.body.now) }
     ensures { Answers (context_of ctx.now) (step.Frame frame.entry) (record { status = result; before = out.old; behind = out.new; info_before = info.old; info_behind = info.new }) }
@@ -178,7 +179,7 @@ fn tell_frame(ctx: &SessionContext, frame: Frame<'_>, info: &mut [u8], out: &mut
     }
 }
 
-/// Tells the outcome of a header with a fault.
+/// Writes the outcome of a header with a fault.
 fn tell_fault(fault: HeadFault, info: &mut [u8], out: &mut Verdict) -> u32
     ensures { (ctx : Context) → Answers ctx (step.Fault fault) (record { status = result; before = out.old; behind = out.new; info_before = info.old; info_behind = info.new }) }
 {
@@ -187,7 +188,7 @@ fn tell_fault(fault: HeadFault, info: &mut [u8], out: &mut Verdict) -> u32
     tell(0, 0, no_parts(), &outcome, info, out)
 }
 
-/// Judges the message that octets begin with, in the context of its session. What stands behind it has no effect.
+/// Judges the message that octets begin with, in the context of its session. Octets after it are ignored.
 #[unsafe(no_mangle)]
 pub extern "C" fn ristulva_judge(
     ctx: &SessionContext,

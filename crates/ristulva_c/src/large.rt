@@ -1,4 +1,4 @@
-//! Large communities one after another.
+//! Large communities in sequence.
 
 ghost use Rattle.std.specs.Prelude.{◌≡◌, ◌-◌, ◌⊎◌, ◌↔◌, ◌≤◌, length, [], ◌∷◌, MatchOption};
 ghost use Rattle.bgp_attr.specs.Prelude.{triples_of, each_once};
@@ -8,15 +8,15 @@ ghost use Rattle.ristulva_c.specs.declared.status.TheConstants.{END, OK, RANGE};
 use crate::status::{END, OK, RANGE};
 use bgp_attr::first_new_triple;
 
-/// The large communities of an attribute that are still to come.
+/// The remaining large communities of an attribute.
 #[repr(C)]
 #[derive(Clone, Copy)]
 pub struct LargeCommunities {
-    /// Where the first one begins.
+    /// The offset of the first one.
     pub first: u32,
-    /// Where the next one begins.
+    /// The offset of the next one.
     pub at: u32,
-    /// Where the attribute's value ends.
+    /// The end of the attribute's value.
     pub end: u32,
 }
 
@@ -28,7 +28,7 @@ pub struct LargeCommunity {
     pub numbers: [u32; 3],
 }
 
-/// The attribute's value, where the cursor lies in the octets and stands behind whole triples.
+/// The attribute's value, where the cursor lies in the octets and is after whole triples.
 fn value_of<'a>(octets: &'a [u8], cursor: &LargeCommunities) -> Option<&'a [u8]>
     ensures { MatchOption result (IsLarge octets.now cursor.now → ⊥)
         (λ value. IsLarge octets.now cursor.now × (value.now ≡ between octets.now cursor.now.first cursor.now.end)) }
@@ -39,7 +39,7 @@ fn value_of<'a>(octets: &'a [u8], cursor: &LargeCommunities) -> Option<&'a [u8]>
     octets.get(cursor.first as usize..cursor.end as usize)
 }
 
-/// Gives the large community that a cursor stands at, and moves the cursor behind it; those that stood before are passed.
+/// Gives the large community at a cursor, and moves the cursor after it; repeated ones are skipped.
 #[unsafe(no_mangle)]
 #[tactic(auto, using(crate::proofs::LargePlaces::left_at_first))]
 pub extern "C" fn ristulva_next_large_community(

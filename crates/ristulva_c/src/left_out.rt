@@ -1,4 +1,4 @@
-//! How much of a message is left out.
+//! Counts of what is left out of a message.
 
 ghost use Rattle.std.specs.Prelude.{◌≡◌, ◌-◌, length};
 ghost use Rattle.std.specs.List.{filter};
@@ -25,7 +25,7 @@ fn is_left_out(drops: &OctetSet, attr: &AttrView<'_>) -> bool
     }
 }
 
-/// How many unrecognised attributes that are kept are of the types.
+/// The number of unrecognised attributes of the types that are kept.
 pub(crate) fn others_left_out(drops: &OctetSet, view: &UpdateView<'_>) -> usize
     ensures { result ≡ length (filter (λ o. has_octet drops.now o.kind) (update_value view.now).attrs.others) }
 {
@@ -39,7 +39,7 @@ pub(crate) fn others_left_out(drops: &OctetSet, view: &UpdateView<'_>) -> usize
     count
 }
 
-/// How many capabilities an OPEN has.
+/// The number of capabilities of an OPEN.
 fn count_caps(view: OpenView<'_>) -> usize
     ensures { result ≡ length (open_value view.entry).caps }
 {
@@ -51,7 +51,7 @@ fn count_caps(view: OpenView<'_>) -> usize
     count
 }
 
-/// How many capabilities of an OPEN don't go on.
+/// The number of capabilities of an OPEN that aren't passed on.
 #[tactic(auto, using(crate::proofs::LeftOut::fewer))]
 pub(crate) fn caps_left_out(view: &OpenView<'_>) -> usize
     ensures { result ≡ length (open_value view.now).caps - length (understood (open_value view.now).caps) }

@@ -1,4 +1,5 @@
-//! Ristulva for C: what `include/ristulva.h` declares. Each call is one of the libraries' calls, with its result told in numbers.
+//! Ristulva for C: what `include/ristulva.h` declares. Each call is one of the libraries' calls, with its result in
+//! numbers.
 #![tactic(auto)]
 
 mod actions;

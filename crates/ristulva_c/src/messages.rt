@@ -10,7 +10,7 @@ use arrayvec::ArrayVec;
 use bgp_frame::{Kind, NotificationView, head};
 use bgp_machine::ActionView;
 
-/// The octets of the longest message (RFC 4271, section 4.1).
+/// The length of the longest message (RFC 4271, section 4.1).
 pub(crate) const MESSAGE_MAX: usize = 4096;
 
 /// The whole message of a NOTIFICATION.
@@ -24,7 +24,7 @@ fn notification(why: &NotificationView<'_>) -> ArrayVec<u8, MESSAGE_MAX>
     octets
 }
 
-/// Copies octets to the front of a buffer, where it has room. Answers how many they are.
+/// Copies octets to the beginning of a buffer, where it has room. Answers their number.
 pub(crate) fn put(octets: &[u8], buffer: &mut [u8]) -> usize
     ensures count { result ≡ length octets.now }
     ensures copied { buffer.new ≡ copied octets.now buffer.old }
@@ -33,7 +33,8 @@ pub(crate) fn put(octets: &[u8], buffer: &mut [u8]) -> usize
     octets.len()
 }
 
-/// Copies the message that an action sends to the front of a buffer. Answers how many octets it has, where the action sends one.
+/// Copies the message that an action sends to the beginning of a buffer. Answers its length, where the action sends
+/// one.
 fn send(own: &[u8], action: &ActionView<'_>, buffer: &mut [u8]) -> Option<usize>
     ensures count { result ≡ option_map length (message_of own.now (action_of action.now)) }
     ensures copied { MatchOption (message_of own.now (action_of action.now)) (buffer.new ≡ buffer.old) (λ octets. buffer.new ≡ copied octets buffer.old) }
@@ -46,7 +47,8 @@ fn send(own: &[u8], action: &ActionView<'_>, buffer: &mut [u8]) -> Option<usize>
     }
 }
 
-/// Copies the message of the first action that sends one to the front of a buffer. Answers how many octets it has: none where nothing is sent.
+/// Copies the message of the first action that sends one to the beginning of a buffer. Answers its length: 0 where
+/// nothing is sent.
 pub(crate) fn send_first(own: &[u8], actions: &[ActionView<'_>], buffer: &mut [u8]) -> usize
     ensures count { result ≡ length (octets_sent own.now (map action_of actions.now)) }
     ensures copied { buffer.new ≡ copied (octets_sent own.now (map action_of actions.now)) buffer.old }

@@ -9,7 +9,7 @@ use bgp_attr::Why;
 use bgp_names::{attribute_name, capability_name, error_name, subcode_name};
 use bgp_text::why_name;
 
-/// What a call answers.
+/// A status of a call.
 pub const STATUS: u8 = 1;
 
 /// A reason of a note.
@@ -27,7 +27,7 @@ pub const ERROR: u8 = 5;
 /// A subcode of one.
 pub const SUBCODE: u8 = 6;
 
-/// The name of a status: empty where it is none.
+/// The name of a status: empty where it isn't one.
 #[tactic(auto, unfolding(crate::specs::Name::status_name))]
 fn status_name(status: u8) -> &'static str
     ensures { result.now ≡ status_name status }
@@ -50,7 +50,7 @@ fn status_name(status: u8) -> &'static str
     }
 }
 
-/// The name of the number of a reason: empty where it is none.
+/// The name of the number of a reason: empty where it isn't one.
 #[tactic(auto, unfolding(crate::specs::Name::reason_name))]
 fn reason_name(number: u8) -> &'static str
     ensures { result.now ≡ reason_name number }
@@ -90,7 +90,7 @@ fn name_of(kind: u8, number: u8, subcode: u8) -> Option<&'static str>
     }
 }
 
-/// Writes the name of a number of this kind, or of a subcode of a code: an empty one where it has none here.
+/// Writes the name of a number of this kind, or of a subcode of a code: an empty one where it isn't known here.
 #[unsafe(no_mangle)]
 pub extern "C" fn ristulva_name(
     kind: u8,

@@ -19,7 +19,7 @@ use bgp_update::{Note, UpdateView};
 #[repr(C)]
 #[derive(Clone, Copy)]
 pub struct ToldNote {
-    /// Where the attribute's flags stand in the message; 0 for one that is missing.
+    /// The offset of the attribute's flags in the message; 0 for one that is missing.
     pub at: u32,
     /// Its type; 0 for one that is cut off before its type.
     pub kind: u8,
@@ -50,7 +50,7 @@ fn number_of_why(why: Why) -> u8
     }
 }
 
-/// A note as it is told.
+/// A note in numbers.
 fn note_told(note: Note) -> ToldNote
     ensures { result ≡ note_told note }
 {
@@ -62,7 +62,7 @@ fn note_told(note: Note) -> ToldNote
     }
 }
 
-/// Writes a note behind so many others, where there is a place for it.
+/// Writes a note after `count` others, where there is room for it.
 fn put_note(list: &mut [ToldNote], count: usize, note: Note)
     ensures { (before places : List ToldNote) → length before ≡ count → list.old ≡ listed before places → list.new ≡ listed (before ++ note_told note ∷ []) places }
 {
@@ -71,7 +71,7 @@ fn put_note(list: &mut [ToldNote], count: usize, note: Note)
     }
 }
 
-/// Writes the notes of an UPDATE to a list, as many as it has room for. Answers how many there are.
+/// Writes the notes of an UPDATE to a list, as many as fit. Answers their number.
 pub(crate) fn list_view(view: &UpdateView<'_>, list: &mut [ToldNote]) -> usize
     ensures list { list.new ≡ listed (map note_told (notes_value view.now)) list.old }
     ensures count { result ≡ length (map note_told (notes_value view.now)) }
@@ -86,7 +86,7 @@ pub(crate) fn list_view(view: &UpdateView<'_>, list: &mut [ToldNote]) -> usize
     count
 }
 
-/// The same of an outcome: only an UPDATE has notes.
+/// As `list_view`, for an outcome: only an UPDATE has notes.
 fn list_outcome(outcome: &OutcomeView<'_>, list: &mut [ToldNote]) -> usize
     ensures list { list.new ≡ listed (told_in (outcome_value outcome.now)) list.old }
     ensures count { result ≡ length (told_in (outcome_value outcome.now)) }
@@ -99,7 +99,7 @@ fn list_outcome(outcome: &OutcomeView<'_>, list: &mut [ToldNote]) -> usize
     }
 }
 
-/// Lists the notes of a message, and tells how many there are.
+/// Lists the notes of a message, and writes their number.
 fn list_frame(
     ctx: &SessionContext,
     frame: Frame<'_>,
@@ -116,7 +116,7 @@ fn list_frame(
     if found <= room { OK } else { ROOM }
 }
 
-/// Lists the notes of the message that octets begin with, as many as the list has room for, and tells how many there are.
+/// Lists the notes of the message that octets begin with, as many as the list has room for, and reports their number.
 #[unsafe(no_mangle)]
 pub extern "C" fn ristulva_notes(
     ctx: &SessionContext,

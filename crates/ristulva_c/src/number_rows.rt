@@ -20,15 +20,15 @@ use bgp_wire::are_octets;
 #[repr(C)]
 #[derive(Clone, Copy)]
 pub struct NumberRow {
-    /// Where its message begins, in the octets that were handed in.
+    /// The offset of its message in the octets given.
     pub message: u64,
     /// The AS number.
     pub number: u32,
-    /// The place of its segment in the path: 0 for the first.
+    /// The index of its segment in the path: 0 for the first.
     pub segment: u16,
     /// Whether the segment is an AS_SET: 1, or 0 for an AS_SEQUENCE.
     pub set: u8,
-    /// Nothing: 0.
+    /// Unused: 0.
     pub reserved: u8,
 }
 
@@ -42,7 +42,7 @@ fn set_flag(kind: SegKind) -> u8
     }
 }
 
-/// The numbers of a segment that are to come, and a row that has all but the number.
+/// The remaining numbers of a segment, and a row with all but the number.
 #[derive(Clone, Copy)]
 struct NumbersLeft<'a> {
     numbers: AsNumberIter<'a>,
@@ -95,7 +95,7 @@ fn put_path(message: u64, path: &JoinedPathView<'_>, list: &mut [NumberRow], fro
     to
 }
 
-/// How many numbers a path has.
+/// The count of a path's numbers.
 fn count_path(path: &JoinedPathView<'_>) -> usize
     requires { numbers_in (joined_value path.now).segments ≤ 4073 }
     ensures { result ≡ numbers_in (joined_value path.now).segments }
@@ -154,8 +154,8 @@ impl Batch for PathNumbers {
     }
 }
 
-/// Tells the numbers of the paths that AS_PATH and AS4_PATH give together, of messages that stand one behind another, in rows of a list, as many whole
-/// messages as have room in it.
+/// Writes the numbers of the paths that AS_PATH and AS4_PATH give together, of messages in sequence, to rows of a list,
+/// for as many whole messages as fit.
 #[unsafe(no_mangle)]
 pub extern "C" fn ristulva_path_numbers(
     ctx: &SessionContext,

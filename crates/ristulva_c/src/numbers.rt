@@ -1,4 +1,4 @@
-//! Numbers one after another.
+//! Numbers in sequence.
 
 ghost use Rattle.std.specs.Prelude.{◌≡◌, ◌==◌, ◌⊎◌, ◌↔◌, [], ◌∷◌};
 ghost use Rattle.ristulva_c.specs.Prelude.{IsNumbers, numbers_left};
@@ -7,19 +7,19 @@ ghost use Rattle.ristulva_c.specs.declared.status.TheConstants.{END, OK, RANGE};
 use crate::status::{END, OK, RANGE};
 use bgp_attr::first_number;
 
-/// The numbers of a field that are still to come.
+/// The remaining numbers of a field.
 #[repr(C)]
 #[derive(Clone, Copy)]
 pub struct Numbers {
-    /// Where the next one begins.
+    /// The offset of the next one.
     pub at: u32,
-    /// Where the field ends.
+    /// The end of the field.
     pub end: u32,
-    /// How many octets each has: 2 or 4.
+    /// The length of each: 2 or 4.
     pub width: u8,
 }
 
-/// Gives the number that a cursor stands at, of four octets where `wide`, else of two, and moves the cursor behind it.
+/// Gives the number at a cursor, of four octets where `wide`, else of two, and moves the cursor after it.
 #[inline(always)]
 #[tactic(auto, using(crate::proofs::NumberSteps::number_fits))]
 fn next_of(wide: bool, octets: &[u8], cursor: &mut Numbers, out: &mut u32) -> u32
@@ -43,7 +43,7 @@ fn next_of(wide: bool, octets: &[u8], cursor: &mut Numbers, out: &mut u32) -> u3
     OK
 }
 
-/// Gives the number that a cursor stands at, and moves the cursor behind it.
+/// Gives the number at a cursor, and moves the cursor after it.
 #[unsafe(no_mangle)]
 pub extern "C" fn ristulva_next_number(octets: &[u8], cursor: &mut Numbers, out: &mut u32) -> u32
     ensures ok { result ≡ OK → numbers_left octets.now cursor.old ≡ out.new ∷ numbers_left octets.now cursor.new }

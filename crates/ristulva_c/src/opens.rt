@@ -14,7 +14,7 @@ use bgp_open::{OpenView, view_open};
 #[repr(C)]
 #[derive(Clone, Copy)]
 pub struct OpenFields {
-    /// The AS number of its speaker: that of the first capability for AS numbers of four octets, else My Autonomous System
+    /// The AS number of its speaker: that of the first capability for 4-octet AS numbers, else My Autonomous System
     /// (RFC 6793, section 4.1).
     pub as_number: u32,
     /// My Autonomous System.
@@ -23,7 +23,7 @@ pub struct OpenFields {
     pub hold: u16,
     /// The BGP Identifier: never zero (RFC 6286, section 2.1).
     pub id: [u8; 4],
-    /// Whether AS numbers of four octets are offered (RFC 6793, section 4.1): 1, or 0 for no.
+    /// Whether 4-octet AS numbers are offered (RFC 6793, section 4.1): 1, or 0 for no.
     pub as4: u8,
     /// Whether IPv4 unicast is offered (RFC 4760, section 8): 1, or 0 for no.
     pub ip4: u8,
@@ -40,7 +40,7 @@ pub(crate) fn flag_of(is: bool) -> u8
     if is { 1 } else { 0 }
 }
 
-/// An OPEN as it is told, of a message of so many octets.
+/// An OPEN in numbers, by the length of its message.
 fn open_told(view: &OpenView<'_>, len: u16) -> OpenFields
     ensures { result ≡ open_told len (open_value view.now) }
 {
@@ -61,7 +61,7 @@ fn open_told(view: &OpenView<'_>, len: u16) -> OpenFields
     }
 }
 
-/// Tells the OPEN that a message is.
+/// Writes what an OPEN says.
 fn tell_open(frame: Frame<'_>, out: &mut OpenFields) -> u32
     requires { IsLength frame.kind (19 + length frame.body.now) }
     ensures { TellsOpen frame.entry.len (accepted_in frame.entry.kind frame.entry.body.now) result out.old out.new }
@@ -78,7 +78,7 @@ fn tell_open(frame: Frame<'_>, out: &mut OpenFields) -> u32
     }
 }
 
-/// Tells the OPEN that octets begin with, where it is accepted. What stands behind it has no effect.
+/// Reports the OPEN that octets begin with, where it is accepted. Octets after it are ignored.
 #[unsafe(no_mangle)]
 pub extern "C" fn ristulva_open(octets: &[u8], out: &mut OpenFields) -> u32
     ensures { IsOpened octets.now result out.old out.new }

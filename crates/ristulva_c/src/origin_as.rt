@@ -1,4 +1,4 @@
-//! The AS that a route came from.
+//! The origin AS of a route.
 
 ghost use Rattle.std.specs.Prelude.{◌≡◌, Option};
 ghost use Rattle.bgp_attr.specs.Prelude.{as_numbers_left, segment_value};
@@ -42,7 +42,7 @@ fn origin_in(path: &JoinedPathView<'_>) -> Option<u32>
     last
 }
 
-/// The AS that a route came from, where its path ends in a sequence.
+/// The origin AS of a route, where its path ends in a sequence.
 pub(crate) fn origin_as(info: &PathInfoView<'_>) -> Option<u32>
     ensures { result ≡ origin_of (info_value info.now).path }
 {

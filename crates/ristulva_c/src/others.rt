@@ -1,4 +1,4 @@
-//! How many attributes of unrecognised types are kept.
+//! Counting the kept attributes of unrecognised types.
 
 ghost use Rattle.std.specs.Prelude.{◌≡◌, ◌≤◌, length};
 ghost use Rattle.bgp_attr.specs.Prelude.{attr_value};
@@ -17,7 +17,7 @@ fn is_opaque(attr: &AttrView<'_>) -> bool
     }
 }
 
-/// How many attributes of unrecognised types are kept.
+/// The number of attributes of unrecognised types that are kept.
 pub(crate) fn count_others(view: &UpdateView<'_>) -> usize
     ensures count { result ≡ length (update_value view.now).attrs.others }
     ensures few { result ≤ 1358 }

@@ -6,7 +6,7 @@ ghost use Rattle.ristulva_c.specs.Prelude.{parts_told, fields_of};
 
 use crate::span::Span;
 
-/// Where the three parts of an UPDATE lie in its message (RFC 4271, section 4.3).
+/// The three parts of an UPDATE in its message (RFC 4271, section 4.3).
 #[repr(C)]
 #[derive(Clone, Copy)]
 pub struct ToldParts {
@@ -18,7 +18,7 @@ pub struct ToldParts {
     pub nlri: Span,
 }
 
-/// No part lies anywhere.
+/// Empty spans.
 pub(crate) fn no_parts() -> ToldParts
     ensures { result ≡ parts_told None }
 {
@@ -30,7 +30,7 @@ pub(crate) fn no_parts() -> ToldParts
     }
 }
 
-/// The octets behind a length of two octets, and what follows them.
+/// The octets after a length of two octets, and what follows them.
 fn split_behind(octets: &[u8]) -> Option<(&[u8], &[u8])>
     ensures value { option_map (λ x. (x.0.now, x.1.now)) result ≡ behind_two octets.now }
     ensures long { IfSome result (λ x. 2 + length x.0.now + length x.1.now ≡ length octets.now) }
@@ -41,7 +41,7 @@ fn split_behind(octets: &[u8]) -> Option<(&[u8], &[u8])>
     rest.split_at_checked(len)
 }
 
-/// The path attributes of a body, and how long Withdrawn Routes and the NLRI field are.
+/// The path attributes of a body, and the lengths of Withdrawn Routes and the NLRI field.
 #[tactic(auto, unfolding(bgp_update::specs::Parts::parts_of))]
 pub(crate) fn fields_of(body: &[u8]) -> Option<(usize, &[u8], usize)>
     ensures value { option_map (λ x. (x.0, x.1.now, x.2)) result ≡ option_map fields_of (parts_of body.now) }
@@ -52,7 +52,7 @@ pub(crate) fn fields_of(body: &[u8]) -> Option<(usize, &[u8], usize)>
     Some((withdrawn.len(), attributes, nlri.len()))
 }
 
-/// Where the parts lie in the message that has this body, where its lengths leave room for each other.
+/// The spans of the parts in the message with this body, where its lengths leave room for each other.
 pub(crate) fn told_parts(body: &[u8]) -> Option<ToldParts>
     requires { length body.now ≤ 4077 }
     ensures { MatchOption result (parts_of body.now ≡ None) (λ told. told ≡ parts_told (parts_of body.now)) }
@@ -74,7 +74,7 @@ pub(crate) fn told_parts(body: &[u8]) -> Option<ToldParts>
     })
 }
 
-/// The same, or no part lies anywhere.
+/// As `told_parts`, or else empty spans.
 pub(crate) fn parts_in(body: &[u8]) -> ToldParts
     requires { length body.now ≤ 4077 }
     ensures { result ≡ parts_told (parts_of body.now) }

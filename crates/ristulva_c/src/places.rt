@@ -1,4 +1,4 @@
-//! Where the attributes of a type lie in an UPDATE's message.
+//! The offsets of the attributes of a type in an UPDATE's message.
 
 ghost use Rattle.std.specs.Prelude.{◌≡◌, ◌==◌, ◌+◌, ◌≤◌, length, option_map, IfSome};
 ghost use Rattle.std.specs.List.{find};
@@ -24,14 +24,14 @@ pub(crate) fn first_of_type(kind: u8, field: &[u8]) -> Option<Tlv<'_>>
     None
 }
 
-/// Nothing lies anywhere.
+/// An empty span.
 fn nowhere() -> Span
     ensures { result ≡ record { at = 0; len = 0 } }
 {
     Span { at: 0, len: 0 }
 }
 
-/// Where the value of an attribute lies, in a message whose attributes begin there.
+/// The span of an attribute's value, in a message whose attributes begin at this offset.
 fn value_at(field: usize, tlv: &Option<Tlv<'_>>) -> Span
     requires { IfSome tlv.now (λ t. (field + t.at + length t.whole.now ≤ 4096) × (length t.value.now ≤ length t.whole.now)) }
     ensures value { result ≡ value_at field (option_map placed_tlv tlv.now) }
@@ -46,7 +46,7 @@ fn value_at(field: usize, tlv: &Option<Tlv<'_>>) -> Span
     }
 }
 
-/// Where the value of the first attribute of a type lies, in the message that has this body.
+/// The span of the value of the first attribute of a type, in the message with this body.
 fn value_in(kind: u8, body: &[u8]) -> Span
     requires { length body.now ≤ 4077 }
     ensures value { result ≡ value_in kind (parts_of body.now) }
@@ -58,7 +58,7 @@ fn value_in(kind: u8, body: &[u8]) -> Span
     }
 }
 
-/// The same of an attribute that is kept.
+/// As `value_in`, for an attribute that is kept; else empty.
 pub(crate) fn kept_at(is_kept: bool, kind: u8, body: &[u8]) -> Span
     requires { length body.now ≤ 4077 }
     ensures value { result ≡ kept_at is_kept kind (parts_of body.now) }

@@ -1,4 +1,4 @@
-//! Prefixes one after another.
+//! Prefixes in sequence.
 
 ghost use Rattle.std.specs.Prelude.{◌≡◌, ◌⊎◌, ◌↔◌, ◌≤◌, true, false, [], ◌∷◌, length, MatchOption};
 ghost use Rattle.ristulva_c.specs.Prelude.{width_of, between, IsWithin, IsCursor, prefixes_left, IsPadded, prefix_told, prefix_row};
@@ -10,13 +10,13 @@ use crate::status::{END, OK, RANGE};
 use bgp_numbers::afi;
 use bgp_prefix::{Prefix, PrefixIter4, PrefixIter6, first_prefix};
 
-/// The prefixes of a field that are still to come.
+/// The remaining prefixes of a field.
 #[repr(C)]
 #[derive(Clone, Copy)]
 pub struct Prefixes {
-    /// Where the next one begins.
+    /// The offset of the next one.
     pub at: u32,
-    /// Where the field ends.
+    /// The end of the field.
     pub end: u32,
     /// The address family: 1 for IPv4, 2 for IPv6.
     pub afi: u16,
@@ -30,11 +30,11 @@ pub struct RoutePrefix {
     pub afi: u16,
     /// The length in bits.
     pub len: u8,
-    /// The address, highest octet first: four octets for IPv4, with zeros behind them.
+    /// The address, highest octet first: four octets for IPv4, with zeros after them.
     pub addr: [u8; 16],
 }
 
-/// A prefix as it is told.
+/// A prefix in numbers.
 pub(crate) fn prefix_row<const W: usize>(afi: u16, prefix: &Prefix<W>) -> RoutePrefix
     requires { W ≤ 16 }
     ensures value { result ≡ prefix_row afi prefix.now }
@@ -49,14 +49,14 @@ pub(crate) fn prefix_row<const W: usize>(afi: u16, prefix: &Prefix<W>) -> RouteP
     }
 }
 
-/// The octets of the field that are left, where the cursor lies in the octets.
+/// The remaining octets of the field, where the cursor lies in the octets.
 fn rest_of<'a>(octets: &'a [u8], cursor: &Prefixes) -> Option<&'a [u8]>
     ensures { MatchOption result (IsWithin octets.now cursor.now → ⊥) (λ rest. IsWithin octets.now cursor.now × (rest.now ≡ between octets.now cursor.now.at cursor.now.end)) }
 {
     octets.get(cursor.at as usize..cursor.end as usize)
 }
 
-/// Whether a cursor lies in octets, and is of a family that is read.
+/// Whether a cursor lies in octets, and is of a supported family.
 pub(crate) fn is_cursor(octets: &[u8], cursor: &Prefixes) -> bool
     ensures yes { result ≡ true → IsCursor octets.now cursor.now }
     ensures no { result ≡ false → IsCursor octets.now cursor.now → ⊥ }
@@ -67,7 +67,8 @@ pub(crate) fn is_cursor(octets: &[u8], cursor: &Prefixes) -> bool
     }
 }
 
-/// Gives the prefix of this width that a cursor stands at, and moves the cursor behind it. It isn't inlined, so that each width saves its own registers.
+/// Gives the prefix of this width at a cursor, and moves the cursor after it. It isn't inlined, so that each width
+/// saves its own registers.
 #[tactic(auto, using(crate::proofs::PrefixSteps::prefix_fits))]
 #[inline(never)]
 fn next_of<const W: usize>(octets: &[u8], cursor: &mut Prefixes, out: &mut RoutePrefix) -> u32
@@ -96,7 +97,7 @@ fn next_of<const W: usize>(octets: &[u8], cursor: &mut Prefixes, out: &mut Route
     }
 }
 
-/// Gives the prefix that a cursor stands at, and moves the cursor behind it.
+/// Gives the prefix at a cursor, and moves the cursor after it.
 #[unsafe(no_mangle)]
 pub extern "C" fn ristulva_next_prefix(
     octets: &[u8],
@@ -120,7 +121,7 @@ pub extern "C" fn ristulva_next_prefix(
     }
 }
 
-/// Tells how many prefixes a cursor still gives: it stays where it is.
+/// Reports how many prefixes a cursor still gives, without moving it.
 #[unsafe(no_mangle)]
 pub extern "C" fn ristulva_count_prefixes(
     octets: &[u8],

@@ -1,4 +1,4 @@
-//! UPDATEs of a session with AS numbers of two octets, as speakers with four see them.
+//! UPDATEs of a session with 2-octet AS numbers, as 4-octet speakers see them.
 
 ghost use Rattle.std.specs.Prelude.{◌≡◌, ◌≤◌, false, Some, length, option_map, IfOk};
 ghost use Rattle.bgp_update.specs.Prelude.{verdict_of, update_value, notes_value, with_as4};
@@ -11,7 +11,7 @@ use bgp_open::Context;
 use bgp_update::{Found, Update, UpdateView, reconcile};
 use std::alloc::{AllocError, Global};
 
-/// An UPDATE with the path and the aggregator that AS4_PATH and AS4_AGGREGATOR give back in the place of all four.
+/// An UPDATE with the path and the aggregator that AS4_PATH and AS4_AGGREGATOR give instead of all four attributes.
 fn rebuild(alloc: Global, update: Update) -> Result<Update, AllocError>
     ensures { IfOk result (λ it. it ≡ rebuilt_update update) }
 {
@@ -24,7 +24,7 @@ fn rebuild(alloc: Global, update: Update) -> Result<Update, AllocError>
     Ok(rebuilt)
 }
 
-/// The message of an UPDATE that is accepted, with AS numbers of four octets, where it can be written.
+/// The message of an UPDATE that is accepted, with 4-octet AS numbers, where it can be written.
 fn rebuilt(alloc: Global, ctx: &Context, view: &UpdateView<'_>) -> Coded
     ensures { IsCoded result (Some (reconciled_of ctx.now (update_value view.now))) }
 {
@@ -38,7 +38,7 @@ fn rebuilt(alloc: Global, ctx: &Context, view: &UpdateView<'_>) -> Coded
     }
 }
 
-/// The same, where it has no note.
+/// As `rebuilt`, where it has no note.
 fn whole_rebuilt(alloc: Global, ctx: &Context, view: &UpdateView<'_>) -> Coded
     ensures { IsCoded result (option_map (reconciled_of ctx.now) (without_notes (update_value view.now) (notes_value view.now))) }
 {
@@ -48,7 +48,7 @@ fn whole_rebuilt(alloc: Global, ctx: &Context, view: &UpdateView<'_>) -> Coded
     }
 }
 
-/// What comes of a body of a session with AS numbers of two octets.
+/// The result of a body of a session with 2-octet AS numbers.
 fn reconciled(alloc: Global, ctx: &Context, body: &[u8]) -> Coded
     requires { length body.now ≤ 4077 }
     ensures { IsCoded result (option_map (reconciled_of ctx.now) (taken_of (verdict_of (with_as4 false ctx.now) body.now))) }
@@ -61,7 +61,7 @@ fn reconciled(alloc: Global, ctx: &Context, body: &[u8]) -> Coded
     }
 }
 
-/// Writes the UPDATE that a body is in some spelling, of a session with AS numbers of two octets, as speakers with four see it
+/// Writes an UPDATE of a session with 2-octet AS numbers, given as a body in any form, as 4-octet speakers see it
 /// (RFC 6793, section 4.2.3), as a whole message.
 #[unsafe(no_mangle)]
 pub extern "C" fn ristulva_reconcile(

@@ -1,4 +1,4 @@
-//! The routes of an UPDATE, announced and withdrawn, one after another.
+//! The routes of an UPDATE, announced and withdrawn, in sequence.
 
 ghost use Rattle.std.specs.Prelude.{◌≡◌, ◌+◌, ◌⊎◌, ◌↔◌, ◌≤◌, ◌&&◌, ◌||◌, not, true, false, [], ◌∷◌, length, Some, option_map, IfSome};
 ghost use Rattle.bgp_numbers.specs.declared.afi.TheConstants.{IPV4, IPV6};
@@ -26,7 +26,7 @@ use bgp_open::Context;
 use bgp_update::UpdateView;
 use bgp_wire::are_octets;
 
-/// The routes of an UPDATE that are still to come.
+/// The remaining routes of an UPDATE.
 #[repr(C)]
 #[derive(Clone, Copy)]
 pub struct RouteCursor {
@@ -99,7 +99,7 @@ fn unreach_afi(unreach: &MpUnreachView<'_>) -> u16
     }
 }
 
-/// How many octets the next hop of MP_REACH_NLRI has.
+/// The length of the next hop of MP_REACH_NLRI.
 fn next_hop_length(value: &[u8]) -> usize
     ensures value { result ≡ next_hop_length value.now }
     ensures small { result ≤ 255 }
@@ -143,7 +143,7 @@ fn prefixes_by(field: usize, tlv: &Tlv<'_>, judged: &FoundAttr<'_>) -> Prefixes
     }
 }
 
-/// The same, where there is one.
+/// As `prefixes_by`, where there is one.
 fn prefixes_at(ctx: &Context, nlri: bool, field: usize, tlv: &Option<Tlv<'_>>) -> Prefixes
     requires { IfSome tlv.now (λ t. (field + t.at + length t.whole.now ≤ 4096) × ((length t.whole.now ≤ 4075) × (length t.value.now ≤ length t.whole.now))) }
     ensures { result ≡ prefixes_at ctx.now nlri field (option_map placed_tlv tlv.now) }
@@ -183,7 +183,8 @@ fn loses(ctx: &Context, reach: &Option<Tlv<'_>>, unreach: &Option<Tlv<'_>>) -> b
     !ctx.ip6 && (has_ip6(reach) || has_ip6(unreach))
 }
 
-/// A cursor at the first of an UPDATE's routes: by how long Withdrawn Routes are, by its attributes, and by how long the NLRI field is.
+/// A cursor at the first of an UPDATE's routes: by the length of Withdrawn Routes, its attributes, and the length of
+/// the NLRI field.
 fn cursor_of(
     ctx: &Context,
     announces: bool,
@@ -241,7 +242,7 @@ fn begin(ctx: &SessionContext, frame: Frame<'_>) -> RouteCursor
     }
 }
 
-/// Begins a cursor at the first of the routes of the message that octets begin with. What stands behind it has no effect.
+/// Begins a cursor at the first of the routes of the message that octets begin with. Octets after it are ignored.
 #[unsafe(no_mangle)]
 pub extern "C" fn ristulva_begin_routes(
     ctx: &SessionContext,
@@ -275,7 +276,7 @@ fn are_cursors(octets: &[u8], cursor: &RouteCursor) -> bool
         && is_cursor(octets, &cursor.nlri)
 }
 
-/// Gives the route that one field's cursor stands at, where there is one, and moves the cursor behind it.
+/// Gives the route at one field's cursor, where there is one, and moves the cursor after it.
 fn next_in(octets: &[u8], announced: bool, cursor: &mut Prefixes, out: &mut Route) -> bool
     requires { IsCursor octets.now cursor.old }
     ensures given { result ≡ true → field_routes announced octets.now cursor.old ≡ route_told out.new ∷ field_routes announced octets.now cursor.new }
@@ -296,7 +297,7 @@ fn next_in(octets: &[u8], announced: bool, cursor: &mut Prefixes, out: &mut Rout
     true
 }
 
-/// Gives the route that a cursor stands at, and moves the cursor behind it.
+/// Gives the route at a cursor, and moves the cursor after it.
 #[unsafe(no_mangle)]
 pub extern "C" fn ristulva_next_route(
     octets: &[u8],

@@ -26,13 +26,13 @@ use bgp_prefix::PrefixIter;
 use bgp_update::UpdateView;
 use bgp_wire::are_octets;
 
-/// Where octets lie in a message: of none, at 0, where there are none.
+/// A span in a message: empty, at 0, where there is none.
 #[repr(C)]
 #[derive(Clone, Copy)]
 pub struct Place {
     /// Their offset from the first octet of the message.
     pub at: u16,
-    /// How many they are.
+    /// Their number.
     pub len: u16,
 }
 
@@ -40,9 +40,9 @@ pub struct Place {
 #[repr(C)]
 #[derive(Clone, Copy)]
 pub struct RouteRow {
-    /// Where its message begins, in the octets that were handed in.
+    /// The offset of its message in the octets given.
     pub message: u64,
-    /// The AS that it came from, where there is one.
+    /// Its origin AS, where there is one.
     pub origin_as: u32,
     /// The value of AS_PATH.
     pub as_path: Place,
@@ -58,16 +58,16 @@ pub struct RouteRow {
     pub announced: u8,
     /// The verdict on its message: `UPDATE` or `WITHDRAW`.
     pub verdict: u8,
-    /// Whether there is an AS that it came from: 1, or 0 for no.
+    /// Whether there is an origin AS: 1, or 0 for no.
     pub has_origin_as: u8,
-    /// Nothing: zeros.
+    /// Unused: zeros.
     pub reserved: [u8; 5],
 }
 
-/// Nothing lies anywhere.
+/// An empty span.
 const NOWHERE: Place = Place { at: 0, len: 0 };
 
-/// Where octets of a message lie.
+/// A span in a message.
 fn place_of(span: Span) -> Place
     requires { span.at + span.len ≤ 4096 }
     ensures { result ≡ place_of span }
@@ -118,7 +118,7 @@ fn announced_row(message: u64, verdict: u8, paths: &Paths) -> RouteRow
     }
 }
 
-/// The prefixes of a field that are to come, and a row that has all but the prefix.
+/// The remaining prefixes of a field, and a row with all but the prefix.
 #[derive(Clone, Copy)]
 struct PrefixesLeft<'a, const W: usize> {
     afi: u16,
@@ -146,7 +146,7 @@ impl<'a, const W: usize> Rows for PrefixesLeft<'a, W> {
     }
 }
 
-/// Writes rows of prefixes from a place of a list on. Answers the place behind them.
+/// Writes rows of prefixes from an index of a list on. Answers the index after them.
 fn put_prefixes<const W: usize>(
     afi: u16,
     prefixes: PrefixIter<'_, W>,
@@ -220,7 +220,7 @@ fn put_routes(
     put_prefixes(afi::IPV4, update.nlri(), come, list, reached)
 }
 
-/// How many routes MP_REACH_NLRI has.
+/// The number of routes of MP_REACH_NLRI.
 fn count_reached(reach: Option<MpReachView<'_>>) -> usize
     ensures { (row : RouteRow) → result ≡ length (reached_rows row (option_map reach_value reach.entry)) }
 {
@@ -231,7 +231,7 @@ fn count_reached(reach: Option<MpReachView<'_>>) -> usize
     }
 }
 
-/// How many routes MP_UNREACH_NLRI has.
+/// The number of routes of MP_UNREACH_NLRI.
 fn count_unreached(unreach: Option<MpUnreachView<'_>>) -> usize
     ensures { (row : RouteRow) → result ≡ length (unreached_rows row (option_map unreach_value unreach.entry)) }
 {
@@ -242,7 +242,7 @@ fn count_unreached(unreach: Option<MpUnreachView<'_>>) -> usize
     }
 }
 
-/// How many routes an UPDATE has.
+/// The number of routes of an UPDATE.
 fn count_routes(update: &UpdateView<'_>) -> usize
     requires { (away come : RouteRow) → length (update_rows away come (update_value update.now)) ≤ 4073 }
     ensures { (away come : RouteRow) → result ≡ length (update_rows away come (update_value update.now)) }
@@ -301,7 +301,7 @@ impl Batch for Routes {
     }
 }
 
-/// Tells the routes of messages that stand one behind another, in rows of a list, as many whole messages as have room in it.
+/// Writes the routes of messages in sequence to rows of a list, for as many whole messages as fit.
 #[unsafe(no_mangle)]
 pub extern "C" fn ristulva_routes(
     ctx: &SessionContext,

@@ -1,4 +1,4 @@
-//! Where the prefixes of MP_REACH_NLRI and MP_UNREACH_NLRI lie.
+//! The offsets of the prefixes of MP_REACH_NLRI and MP_UNREACH_NLRI.
 
 ghost use Rattle.std.specs.Prelude.{◌≡◌, ◌+◌, ◌⊎◌, ◌↔◌, ◌≤◌, length, MatchOption};
 ghost use Rattle.bgp_attr.specs.Prelude.{afi_of, next_hop_length, mp_reach_of, mp_unreach_of};
@@ -18,7 +18,7 @@ fn value_of<'a>(octets: &'a [u8], span: &Span) -> Option<&'a [u8]>
     octets.get(span.at as usize..end as usize)
 }
 
-/// The address family of a value's routes, where it is one that is read.
+/// The address family of a value's routes, where it is a supported one.
 fn family_of(value: &[u8]) -> Option<u16>
     ensures { MatchOption result (HasFamily value.now → ⊥) (λ family. HasFamily value.now × (family ≡ afi_of value.now)) }
 {
@@ -33,7 +33,7 @@ fn family_of(value: &[u8]) -> Option<u16>
     }
 }
 
-/// The address family of MP_REACH_NLRI, and how many octets its next hop has.
+/// The address family of MP_REACH_NLRI, and the length of its next hop.
 fn reach_of(value: &[u8]) -> Option<(u16, usize)>
     ensures { MatchOption result (IsReachValue value.now → ⊥) (λ x. IsReachValue value.now × ((x.0 ≡ afi_of value.now) × (x.1 ≡ next_hop_length value.now))) }
 {
@@ -48,7 +48,7 @@ fn reach_of(value: &[u8]) -> Option<(u16, usize)>
     Some((family, hop))
 }
 
-/// Begins a cursor at the prefixes of MP_REACH_NLRI, and tells where its next hop lies.
+/// Begins a cursor at the prefixes of MP_REACH_NLRI, and reports the span of its next hop.
 #[unsafe(no_mangle)]
 pub extern "C" fn ristulva_reached(
     octets: &[u8],

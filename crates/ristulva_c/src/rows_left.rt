@@ -1,16 +1,16 @@
-//! Rows of a list of the caller's, one behind another.
+//! Rows in the caller's list, in sequence.
 
 ghost use Rattle.std.specs.Prelude.{◌≡◌, ◌+◌, ◌≤◌, length};
 ghost use Rattle.ristulva_c.specs.steps.Batch.{Adds};
 
-/// Rows that are still to come.
+/// Remaining rows.
 pub(crate) trait Rows {
     ghost use Rattle.std.specs.Prelude.{◌≡◌, List, [], ◌∷◌, MatchOption};
 
     /// A row of the list.
     type Row: Copy;
 
-    /// All that are to come.
+    /// All remaining rows.
     ghost left: { Self → List Self.Row };
 
     /// The first of them.
@@ -18,7 +18,7 @@ pub(crate) trait Rows {
         ensures { MatchOption result (left self.old ≡ []) (λ row. left self.old ≡ row ∷ left self.new) };
 }
 
-/// How many rows are to come.
+/// The number of remaining rows.
 pub(crate) fn count_rows<R: Rows + Copy>(rows: R) -> usize
     requires { length (R.left rows) ≤ 4073 }
     ensures { result ≡ length (R.left rows) }
@@ -31,7 +31,7 @@ pub(crate) fn count_rows<R: Rows + Copy>(rows: R) -> usize
     count
 }
 
-/// Writes rows from a place of a list on. Answers the place behind them.
+/// Writes rows from an index of a list on. Answers the index after them.
 pub(crate) fn put_rows<R: Rows + Copy>(rows: R, list: &mut [R::Row], from: usize) -> usize
     requires { from + length (R.left rows) ≤ length list.old }
     ensures adds { Adds (R.left rows) from result list.old list.new }

@@ -1,4 +1,4 @@
-//! Which attributes a guard hands on.
+//! Which attributes a guard passes on.
 
 ghost use Rattle.ristulva_c.specs.Prelude.{IsSetTo};
 
@@ -6,7 +6,7 @@ use crate::cleaning::set_of;
 use bgp_clean::Limits;
 use bgp_guard::Rules;
 
-/// What a guard is set to that hands unrecognised attributes of these types on.
+/// The settings of a guard that passes unrecognised attributes of these types on.
 pub(crate) fn rules_of(pass: &[u8], one_way: u8) -> Rules
     ensures { IsSetTo pass.now one_way result }
 {

@@ -67,7 +67,7 @@ fn why_of(number: u8) -> Option<Why>
     }
 }
 
-/// Writes the section of an RFC by which a note is called for.
+/// Writes the section of an RFC that requires a note.
 #[unsafe(no_mangle)]
 pub extern "C" fn ristulva_note_section(note: &ToldNote, buffer: &mut [u8], len: &mut usize) -> u32
     ensures { IsNoteSection note.now (record { status = result; before = buffer.old; behind = buffer.new; len_before = len.old; len_behind = len.new }) }

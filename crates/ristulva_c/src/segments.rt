@@ -1,4 +1,4 @@
-//! Segments of a path one after another.
+//! The segments of a path in sequence.
 
 ghost use Rattle.std.specs.Prelude.{◌≡◌, ◌⊎◌, ◌↔◌, [], ◌∷◌};
 ghost use Rattle.ristulva_c.specs.Prelude.{is_set, IsSegments, segments_left, segment_told};
@@ -8,13 +8,13 @@ use crate::span::Span;
 use crate::status::{END, OK, RANGE};
 use bgp_attr::{PathForm, first_segment};
 
-/// The segments of a path that are still to come.
+/// The remaining segments of a path.
 #[repr(C)]
 #[derive(Clone, Copy)]
 pub struct Segments {
-    /// Where the next one begins.
+    /// The offset of the next one.
     pub at: u32,
-    /// Where the path ends.
+    /// The end of the path.
     pub end: u32,
     /// Whether AS numbers have four octets: 0 for no.
     pub wide: u8,
@@ -28,11 +28,11 @@ pub struct Segments {
 pub struct PathSegment {
     /// The type: 1 for a set, 2 for a sequence; 3 and 4 for those of confederations.
     pub kind: u8,
-    /// Where its AS numbers lie.
+    /// Its AS numbers.
     pub numbers: Span,
 }
 
-/// Gives the segment that a cursor stands at, and moves the cursor behind it.
+/// Gives the segment at a cursor, and moves the cursor after it.
 #[unsafe(no_mangle)]
 #[tactic(auto, using(crate::proofs::SegmentSteps::segment_fits))]
 pub extern "C" fn ristulva_next_segment(

@@ -18,7 +18,7 @@ use bgp_update::{Found, Update, UpdateView};
 use bgp_wire::are_octets;
 use std::alloc::Global;
 
-/// What comes of a body that is to be sent.
+/// The result of a body that is to be sent.
 #[derive(Drop)]
 pub(crate) enum Outgoing {
     /// It isn't accepted whole.
@@ -33,7 +33,7 @@ pub(crate) enum Outgoing {
     Octets(Vec<u8>),
 }
 
-/// What comes of an UPDATE that is valid, of a session that is Established.
+/// The result of a valid UPDATE in an Established session.
 fn sent(alloc: Global, session: &Session, context: &Context, update: &Update) -> Outgoing
     requires state { session.now.standing.state ≡ state.Established }
     requires agreed { session.now.standing.context ≡ Some context.now }
@@ -43,7 +43,7 @@ fn sent(alloc: Global, session: &Session, context: &Context, update: &Update) ->
     let mut octets = Vec::new(alloc);
     match session.send(alloc, update, &mut octets) {
         Ok(_) => Outgoing::Octets(octets),
-        // No other reason is left.
+        // No other reason remains.
         Err(SendFault::NotValid(_)) => Outgoing::Mixed,
         Err(SendFault::TooLong) => Outgoing::TooLong,
         Err(SendFault::Memory) => Outgoing::Memory,
@@ -51,7 +51,7 @@ fn sent(alloc: Global, session: &Session, context: &Context, update: &Update) ->
     }
 }
 
-/// What comes of an UPDATE that is accepted, where it has no note.
+/// The result of an UPDATE that is accepted, where it has no note.
 fn whole(alloc: Global, session: &Session, context: &Context, view: &UpdateView<'_>) -> Outgoing
     requires state { session.now.standing.state ≡ state.Established }
     requires agreed { session.now.standing.context ≡ Some context.now }
@@ -67,7 +67,7 @@ fn whole(alloc: Global, session: &Session, context: &Context, view: &UpdateView<
     }
 }
 
-/// What comes of a body, with AS numbers of four octets.
+/// The result of a body, with 4-octet AS numbers.
 fn made_of(alloc: Global, session: &Session, context: &Context, body: &[u8]) -> Outgoing
     requires state { session.now.standing.state ≡ state.Established }
     requires agreed { session.now.standing.context ≡ Some context.now }
@@ -83,7 +83,7 @@ fn made_of(alloc: Global, session: &Session, context: &Context, body: &[u8]) -> 
     }
 }
 
-/// What is to be done when an UPDATE was sent: the Keepalive Timer begins anew.
+/// What is to be done when an UPDATE was sent: the Keepalive Timer is restarted.
 fn rearmed(context: &Context) -> Actions
     ensures { result ≡ actions_told (keepalive_on context.now) }
 {
@@ -145,7 +145,8 @@ fn send(
     }
 }
 
-/// Writes the UPDATE that a body is in some spelling, with AS numbers of four octets, as a session sends it now, and tells what is to be done.
+/// Writes an UPDATE with 4-octet AS numbers, given as a body in any form, as a session sends it now, and reports what
+/// is to be done.
 #[unsafe(no_mangle)]
 pub extern "C" fn ristulva_session_send(
     alloc: Global,

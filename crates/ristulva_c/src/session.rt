@@ -1,4 +1,4 @@
-//! A session's life: it is made, told what happens, and freed.
+//! A session's life: it is made, gets events, and is freed.
 
 ghost use Rattle.std.specs.Prelude.{◌≡◌, ◌≤◌, ◌⊎◌};
 ghost use Rattle.bgp_open.specs.Prelude.{config_of};
@@ -51,7 +51,7 @@ pub extern "C" fn ristulva_session_free(alloc: Global, session: &mut SessionHand
     }
 }
 
-/// Tells where a session stands.
+/// Reports the state of a session.
 #[unsafe(no_mangle)]
 pub extern "C" fn ristulva_session_state(
     alloc: Global,
@@ -69,7 +69,7 @@ pub extern "C" fn ristulva_session_state(
     OK
 }
 
-/// Tells a session what happens, and tells what is to be done.
+/// Passes an event to a session, and reports what is to be done.
 #[unsafe(no_mangle)]
 pub extern "C" fn ristulva_session_event(
     alloc: Global,

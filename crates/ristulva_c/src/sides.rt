@@ -1,4 +1,4 @@
-//! The sides of a guard, and what happens to one, as numbers.
+//! The sides of a guard, and the events of one, as numbers.
 
 ghost use Rattle.std.specs.Prelude.{◌≡◌, ◌==◌};
 ghost use Rattle.bgp_guard.specs.Prelude.{for_side};
@@ -13,7 +13,7 @@ pub const OUTER: u32 = 0;
 /// The speaker that is guarded.
 pub const INNER: u32 = 1;
 
-/// The connection of a side stands.
+/// The connection of a side is up.
 pub const STOOD: u32 = 1;
 
 /// A side can't be reached.
@@ -22,10 +22,10 @@ pub const UNREACHABLE: u32 = 2;
 /// A side has closed its connection, or lost it.
 pub const CLOSED: u32 = 3;
 
-/// What is on its way to a side has stood still for too long.
+/// What is queued for a side has stayed unsent for too long.
 pub const STALLED: u32 = 4;
 
-/// What happens to a side, but for octets.
+/// The events of a side, but for octets.
 #[derive(Clone, Copy, PartialEq, Eq)]
 pub(crate) enum SideEvent {
     Stood,
@@ -34,7 +34,7 @@ pub(crate) enum SideEvent {
     Stalled,
 }
 
-/// The side that has a number, where it is one's.
+/// The side with a number, where there is one.
 pub(crate) fn side_of(number: u32) -> Option<Side>
     ensures { result ≡ side_of number }
 {
@@ -45,7 +45,7 @@ pub(crate) fn side_of(number: u32) -> Option<Side>
     }
 }
 
-/// The event that has a number, where it is one's.
+/// The event with a number, where there is one.
 pub(crate) fn event_of(number: u32) -> Option<SideEvent>
     ensures { result ≡ event_of number }
 {
@@ -58,7 +58,7 @@ pub(crate) fn event_of(number: u32) -> Option<SideEvent>
     }
 }
 
-/// Tells a guard what happens to a side.
+/// Passes an event of a side to a guard.
 pub(crate) fn happen(guard: &mut Guard, side: Side, event: SideEvent)
     ensures { guard.new ≡ for_side (rule_of event) side guard.old }
 {

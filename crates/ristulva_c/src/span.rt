@@ -1,11 +1,11 @@
-//! Where octets lie.
+//! Spans of octets.
 
-/// So many octets from an offset on, in the octets that were handed in.
+/// `len` octets from an offset on, in the octets given.
 #[repr(C)]
 #[derive(Clone, Copy)]
 pub struct Span {
-    /// Where they begin.
+    /// Their offset.
     pub at: u32,
-    /// How many they are.
+    /// Their number.
     pub len: u32,
 }

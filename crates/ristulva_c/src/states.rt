@@ -1,4 +1,4 @@
-//! The states and the timers of a session, and what happens to it, as numbers.
+//! The states and the timers of a session, and its events, as numbers.
 
 ghost use Rattle.std.specs.Prelude.{◌≡◌, ◌==◌};
 ghost use Rattle.ristulva_c.specs.Prelude.{number_of_state, number_of_timer};
@@ -13,13 +13,13 @@ pub const IDLE: u8 = 1;
 /// A connection is sought.
 pub const CONNECT: u8 = 2;
 
-/// A connection failed before the peers agreed; a new one is waited for.
+/// A connection failed before the peers agreed; the session awaits a new one.
 pub const ACTIVE: u8 = 3;
 
-/// The own OPEN is sent, and the peer's is waited for.
+/// The own OPEN is sent, and the peer's is awaited.
 pub const OPEN_SENT: u8 = 4;
 
-/// The peer's OPEN is accepted, and its KEEPALIVE is waited for.
+/// The peer's OPEN is accepted, and its KEEPALIVE is awaited.
 pub const OPEN_CONFIRM: u8 = 5;
 
 /// Routes are exchanged.
@@ -31,7 +31,7 @@ pub const RETRY_TIMER: u8 = 1;
 /// The timer after which the peer has been silent for too long.
 pub const HOLD_TIMER: u8 = 2;
 
-/// The timer after which the peer has to hear something.
+/// The timer after which a KEEPALIVE is due.
 pub const KEEPALIVE_TIMER: u8 = 3;
 
 /// The operator wants the session (RFC 4271, section 8.1: events 1 and 3).
@@ -49,10 +49,10 @@ pub const HOLD_EXPIRED: u32 = 10;
 /// The Keepalive Timer has expired (event 11).
 pub const KEEPALIVE_EXPIRED: u32 = 11;
 
-/// The connection stands (events 16 and 17).
+/// The connection is up (events 16 and 17).
 pub const CONNECTED: u32 = 16;
 
-/// The connection, or the try for one, failed (event 18).
+/// The connection, or the attempt at one, failed (event 18).
 pub const FAILED: u32 = 18;
 
 /// The number of a state.
@@ -69,7 +69,7 @@ pub(crate) fn number_of_state(state: State) -> u8
     }
 }
 
-/// Whether the connection stands, so that octets are taken.
+/// Whether the connection is up, so that octets are accepted.
 pub(crate) fn is_up(state: State) -> bool
     ensures { result ≡ listens state }
 {
@@ -90,7 +90,7 @@ pub(crate) fn number_of_timer(timer: Timer) -> u8
     }
 }
 
-/// The event that has a number, where it is one's.
+/// The event with a number, where there is one.
 pub(crate) fn event_of(number: u32) -> Option<Event>
     ensures { result ≡ event_of number }
 {

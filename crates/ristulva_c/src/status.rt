@@ -1,4 +1,4 @@
-//! What a call answers.
+//! The statuses of a call.
 
 /// The call did what it says.
 pub const OK: u32 = 0;
@@ -15,13 +15,13 @@ pub const RANGE: u32 = 3;
 /// The octets are less than a message.
 pub const INCOMPLETE: u32 = 4;
 
-/// There is less room than is needed.
+/// There is too little room.
 pub const ROOM: u32 = 5;
 
-/// Nothing is left.
+/// Nothing remains.
 pub const END: u32 = 6;
 
-/// The UPDATE isn't accepted whole, or there is no OPEN that is accepted.
+/// The UPDATE isn't accepted whole, or there is no accepted OPEN.
 pub const REFUSED: u32 = 7;
 
 /// The UPDATE can't be written.

@@ -45,7 +45,7 @@ fn fault_line(alloc: Global, place: u64, fault: HeadFault) -> Result<String, All
     Ok(text)
 }
 
-/// Writes lines, where memory was there for them.
+/// Writes lines, where they could be allocated.
 fn print(lines: Result<String, AllocError>, buffer: &mut [u8], len: &mut usize) -> u32
     ensures { (text : List ℕ) → IfOk lines (λ it. string_bytes it ≡ text) → Prints (Some text) (record { status = result; before = buffer.old; behind = buffer.new; len_before = len.old; len_behind = len.new }) }
 {
@@ -55,7 +55,8 @@ fn print(lines: Result<String, AllocError>, buffer: &mut [u8], len: &mut usize) 
     }
 }
 
-/// Writes the lines that `bgp show` prints of the message that octets begin with, where it stands at this place of its stream.
+/// Writes the lines that `bgp show` prints of the message that octets begin with, where it is at this offset of its
+/// stream.
 #[unsafe(no_mangle)]
 pub extern "C" fn ristulva_text(
     alloc: Global,

@@ -1,4 +1,4 @@
-//! What a guard asks of its owner, and what is on the way to its sides.
+//! What a guard requires of its owner, and what is queued for its sides.
 
 ghost use Rattle.std.specs.Prelude.{◌≡◌, ◌≤◌, Some, length, take};
 ghost use Rattle.ristulva_c.specs.Prelude.{side_of, asks_told, GoesOn, IsAsked, IsFrontOf, ShowsWay, TellsStall, IsKnown};
@@ -14,7 +14,7 @@ use crate::status::{NO_SESSION, OK, RANGE, STATE};
 use bgp_guard::{Guard, Side};
 use std::alloc::Global;
 
-/// What a guard asks of its owner for a side. All but `way` are 0 or 1.
+/// What a guard requires of its owner for a side. All but `way` are 0 or 1.
 #[repr(C)]
 #[derive(Clone, Copy)]
 pub struct Asks {
@@ -24,11 +24,11 @@ pub struct Asks {
     pub closes: u8,
     /// Whether the guard has ended.
     pub ended: u8,
-    /// How many octets are on their way to the side.
+    /// The number of octets queued for the side.
     pub way: usize,
 }
 
-/// What a guard asks.
+/// What a guard requires.
 fn asks_told(guard: &Guard, side: Side) -> Asks
     ensures { result ≡ asks_told side guard.now }
 {
@@ -40,7 +40,7 @@ fn asks_told(guard: &Guard, side: Side) -> Asks
     }
 }
 
-/// Tells what a guard asks of its owner for a side.
+/// Reports what a guard requires of its owner for a side.
 #[unsafe(no_mangle)]
 pub extern "C" fn ristulva_guard_asks(
     alloc: Global,
@@ -62,7 +62,7 @@ pub extern "C" fn ristulva_guard_asks(
     OK
 }
 
-/// Tells for how many seconds what is on the way to a side may stand still.
+/// Reports for how many seconds what is queued for a side may stay unsent.
 #[unsafe(no_mangle)]
 pub extern "C" fn ristulva_guard_stall(
     alloc: Global,
@@ -80,7 +80,7 @@ pub extern "C" fn ristulva_guard_stall(
     OK
 }
 
-/// The first octets, as many as there is room for.
+/// The first octets, as many as fit.
 fn front_of(octets: &[u8], room: usize) -> &[u8]
     ensures { result.now ≡ take room octets.now }
 {
@@ -91,7 +91,7 @@ fn front_of(octets: &[u8], room: usize) -> &[u8]
     front
 }
 
-/// Copies the first octets that are on their way to a side.
+/// Copies the first octets queued for a side.
 fn show_way(guard: &Guard, side: Side, buffer: &mut [u8], len: &mut usize)
     ensures { IsFrontOf (half side guard.now).way (record { status = OK; before = buffer.old; behind = buffer.new; len_before = len.old; len_behind = len.new }) }
 {
@@ -99,7 +99,7 @@ fn show_way(guard: &Guard, side: Side, buffer: &mut [u8], len: &mut usize)
     *len = put(front, buffer);
 }
 
-/// Copies the first octets that are on their way to a side, as many as there is room for.
+/// Copies the first octets queued for a side, as many as there is room for.
 #[unsafe(no_mangle)]
 pub extern "C" fn ristulva_guard_way(
     alloc: Global,
@@ -122,7 +122,7 @@ pub extern "C" fn ristulva_guard_way(
     OK
 }
 
-/// Tells a guard how many of the octets on their way to a side are sent.
+/// Reports to a guard how many of the octets queued for a side are sent.
 #[unsafe(no_mangle)]
 pub extern "C" fn ristulva_guard_sent(
     alloc: Global,
@@ -143,7 +143,7 @@ pub extern "C" fn ristulva_guard_sent(
     OK
 }
 
-/// Tells what the OPEN of a side says, once it was handed on.
+/// Writes what the OPEN of a side says, once it was passed on.
 fn tell_peer(guard: &Guard, side: Side, peer: &mut ToldPeer) -> u32
     ensures { IsKnown (half side guard.now).peer result peer.old peer.new }
 {
@@ -154,7 +154,7 @@ fn tell_peer(guard: &Guard, side: Side, peer: &mut ToldPeer) -> u32
     OK
 }
 
-/// Tells what the OPEN of a side said, once it was handed on.
+/// Reports what the OPEN of a side said, once it was passed on.
 #[unsafe(no_mangle)]
 pub extern "C" fn ristulva_guard_peer(
     alloc: Global,

@@ -1,4 +1,4 @@
--- The length field of an attribute, as the code cuts it off.
+-- The length field of an attribute, as the code splits it off.
 use Rattle.std.specs.Prelude.{ℕ, Bool, true, false, List, [], ◌∷◌, Option, None, Some}
 use Rattle.std.specs.Int.{w16, from_be_bytes}
 

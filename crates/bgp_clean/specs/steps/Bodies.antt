@@ -1,4 +1,4 @@
--- Bodies that are handed on.
+-- Bodies that are passed on.
 use Rattle.std.specs.Prelude.{◌≡◌, ℕ, List, true}
 use Rattle.std.specs.List.{AllByRecursion}
 use Rattle.bgp_frame.specs.declared.kind.Kind.{Kind}

@@ -1,4 +1,4 @@
--- The messages that stand for an UPDATE, as the code names them.
+-- The messages that replace an UPDATE, as the code names them.
 use Rattle.std.specs.Prelude.{◌≡◌, ◌≤◌, Bool, true, false, length}
 use Rattle.std.specs.List.{AllByRecursion}
 use Rattle.bgp_open.specs.declared.context.Context.{Context}

@@ -1,4 +1,4 @@
--- Which capabilities were there before, as the code keeps them.
+-- Which capabilities occurred before, as the code keeps them.
 use Rattle.bgp_clean.specs.declared.opens.Seen.{Seen}
 use Rattle.bgp_clean.specs.Opens as opens
 

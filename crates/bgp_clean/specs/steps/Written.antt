@@ -1,4 +1,4 @@
--- The octets of UPDATEs that are handed on.
+-- The octets of UPDATEs that are passed on.
 use Rattle.std.specs.Prelude.{ℕ, List, map}
 use Rattle.bgp_open.specs.declared.context.Context.{Context}
 use Rattle.bgp_update.specs.declared.update.Update.{Update}

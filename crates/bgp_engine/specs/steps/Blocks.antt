@@ -1,4 +1,4 @@
--- One block of text, from its characters to what is written of it.
+-- One block of text, from its characters to what is written for it.
 use Rattle.std.specs.Prelude.{◌≡◌, ℕ, ◌+◌, ◌≤◌, Bool, true, false, List, [], ◌++◌, length, Option, None, Some, Result, Ok, Err}
 use Rattle.bgp_engine.specs.Below.{Appends}
 use Rattle.bgp_engine.specs.declared.tally.Tally.{Tally}
@@ -11,26 +11,26 @@ use Rattle.bgp_engine.specs.Report.{Report, IsWordless}
 use Rattle.bgp_engine.specs.steps.Engine.{Takes}
 use Rattle.bgp_engine.specs.Run.{Reports, stream_of, bad_of}
 
--- however the text goes on, from old on it is the octets, and then what it is from new on
+-- whatever text follows, from old on its stream is the octets, and then its stream from new on
 pub record Spells (hex : Bool) (old : HexText) (block octets : List ℕ) (new : HexText) : Type 0 where
   pub stream : (later : List ℕ) → stream_of hex (pending old ++ (block ++ later)) ≡ octets ++ stream_of hex (pending new ++ later)
   pub bad : (later : List ℕ) → bad_of hex (place old) (pending old ++ (block ++ later)) ≡ bad_of hex (place new) (pending new ++ later)
   pub raw : hex ≡ false → new.pending ≡ None
   pub seen : new.seen ≤ old.seen + length block
 
--- however the text goes on, it is the octets and no others, and bad at place n
+-- whatever text follows, its stream is the octets and no others, and it is bad at offset n
 pub record SpellsNoMore (hex : Bool) (old : HexText) (block octets : List ℕ) (n : ℕ) : Type 0 where
   pub stream : (later : List ℕ) → stream_of hex (pending old ++ (block ++ later)) ≡ octets
   pub bad : (later : List ℕ) → bad_of hex (place old) (pending old ++ (block ++ later)) ≡ Some n
 
 module _ (hex : Bool) (reader_old reader_new : HexText) (old new : Reports) (going : Type 0) (told_old told_new block : List ℕ) where
-  -- the block was read and taken, and the stream goes on
+  -- the block was read and processed, and the stream continues
   pub record MeetsBlock : Type 0 where
     pub octets : List ℕ
     pub spells : Spells hex reader_old block octets reader_new
     pub takes : Takes old new going told_old told_new octets false
 
-  -- the block was read up to a bad character, and taken
+  -- the block was read up to a bad character, and processed
   pub record MeetsBad (n : ℕ) : Type 0 where
     pub octets : List ℕ
     pub spells : SpellsNoMore hex reader_old block octets n
@@ -47,7 +47,7 @@ module _ (hex : Bool) (reader_old reader_new : HexText) (old new : Reports) (goi
   Meets (Met.Bad n) = MeetsBad n
   Meets Met.Over = MeetsOver
 
--- all was written that was collected, and what is written last
+-- all that was collected, and the last text, was written
 pub record WritesAll (reports : Reports) (told : List ℕ) (old new : Option (List ℕ)) (answer : Result Tally ToolFault) : Type 0 where
   pub report : Report
   pub reported : reports [] report
@@ -62,7 +62,7 @@ pub record WritesNone (reports : Reports) (old new : Option (List ℕ)) : Type 0
   pub none : report.lines ≡ []
   pub wrote : Appends old new []
 
--- a front of it was written
+-- a prefix of it was written
 pub record WritesFront (reports : Reports) (told : List ℕ) (old new : Option (List ℕ)) : Type 0 where
   pub report : Report
   pub reported : reports [] report

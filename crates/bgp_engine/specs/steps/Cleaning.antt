@@ -14,7 +14,7 @@ page_rules page = clean_rules page.ctx (has_octet page.drops) page.limits
 abbrev pub clean_plan : Context → (ℕ → Bool) → Limits → Plan (Result (List Message) CleanFault)
 clean_plan ctx drops limits = record { rules = clean_rules ctx drops limits; first = λ m. first_line ctx drops limits m m.kind }
 
--- in a context that is known, or that is to be agreed on
+-- in a known context, or that is to be agreed on
 abbrev pub starts_for : Option (List ℕ) → CleanPage → Starts (Result (List Message) CleanFault)
 starts_for None page = starts_in page.ctx (has_octet page.drops) page.limits
 starts_for (Some theirs) page = starts_by theirs (has_octet page.drops) page.limits

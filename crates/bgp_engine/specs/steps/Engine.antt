@@ -1,4 +1,4 @@
--- Steps of an engine: what it makes of octets, and how it goes on behind them.
+-- Steps of an engine: its report on octets, and how it continues after them.
 use Rattle.std.specs.Prelude.{◌≡◌, ℕ, Bool, true, false, List, [], ◌++◌, Result, Ok, Err}
 use Rattle.bgp_engine.specs.Below.{AreOctets}
 use Rattle.bgp_engine.specs.declared.tally.Tally.{Tally}
@@ -10,11 +10,11 @@ use Rattle.bgp_engine.specs.Run.{Reports}
 abbrev pub OfOctets : Reports → Reports
 OfOctets reports stream r = AreOctets stream × reports stream r
 
--- however the stream goes on behind the octets, what is reported of it from old on is what is reported from new on, behind the lines
+-- whatever follows the octets, the report of the stream from old on is the lines and then the report from new on
 abbrev pub GoesOn : Reports → List ℕ → List ℕ → Reports → Type 0
 GoesOn old octets lines new = (later : List ℕ) (r : Report) → new later r → old (octets ++ later) (behind lines r)
 
--- the stream may go on: if it doesn't, no more lines are written
+-- the stream may continue: if it doesn't, no more lines are written
 pub record Rests (reports : Reports) : Type 0 where
   pub report : Report
   pub reported : reports [] report
@@ -33,7 +33,7 @@ abbrev pub Stands : Bool → Type 0 → Reports → Type 0
 Stands false going reports = going × Rests reports
 Stands true going reports = IsFinal reports
 
--- octets were taken, and what is written of them was collected
+-- octets were processed, and what is written for them was collected
 pub record Takes (old new : Reports) (going : Type 0) (told_old told_new octets : List ℕ) (over : Bool) : Type 0 where
   pub lines : List ℕ
   pub told : told_new ≡ told_old ++ lines

@@ -14,7 +14,7 @@ pub record IsPair (high low octet : ℕ) : Type 0 where
   pub value : octet ≡ digit_value high * 16 + digit_value low
   pub small : octet < 256
 
--- a pair of digits stands at the front of a text, and this behind it
+-- a text begins with a pair of digits, and this follows it
 pub record FirstPair (text rest : List ℕ) (octet : ℕ) : Type 0 where
   pub high : ℕ
   pub low : ℕ

@@ -7,7 +7,7 @@ use Rattle.bgp_engine.specs.declared.fault.ToolFault.{ToolFault}
 use Rattle.bgp_engine.specs.Report.{IsWordless}
 use Rattle.bgp_engine.specs.Rules.{Rules}
 
--- By what a page is written, and what it writes of the first message of a stream where a rule of its own takes that
+-- The rules of a page, and what it writes of the first message of a stream where a separate rule handles it
 pub record Plan (Outcome : Type 0) : Type 0 where
   pub rules : Rules Outcome
   pub first : Message → Option (List ℕ)
@@ -16,19 +16,19 @@ pub record Plan (Outcome : Type 0) : Type 0 where
 abbrev pub plain : {Outcome : Type 0} → Rules Outcome → Plan Outcome
 plain rules = record { rules = rules; first = λ m. None }
 
--- the first message was taken by a rule of its own, and its text was collected; or there is no such rule for it
+-- the first message was handled by a separate rule, and its text was collected; or there is no such rule for it
 abbrev pub TakesFirst : {Outcome : Type 0} → Bool → Plan Outcome → Rules Outcome → Message → List ℕ → List ℕ → Type 0
 TakesFirst true plan rules m told_old told_new = (text : List ℕ) × (plan.first m ≡ Some text) × (plan.rules ≡ rules) × (told_new ≡ told_old ++ text)
 TakesFirst false plan rules m told_old told_new = (plan.first m ≡ None) × (plan.rules ≡ rules) × (told_new ≡ told_old)
 
--- the stream ends behind it
+-- the stream ends after it
 abbrev pub is_last : Class → Bool
 is_last Class.Took = false
 is_last Class.Withdrawn = false
 is_last Class.Reset = true
 
 module _ {Outcome : Type 0} (rules : Rules Outcome) (told_old told_new : List ℕ) (place : ℕ) where
-  -- a message of so many octets was judged, and its lines were collected
+  -- a message of this length was judged, and its lines were collected
   pub record Writes (len : ℕ) (m : Message) (class : Class) : Type 0 where
     pub told : told_new ≡ told_old ++ rules.line place len (octets_of m) (rules.judge.of_message m)
     pub counts : class ≡ rules.class (rules.judge.of_message m)

@@ -1,4 +1,4 @@
--- Steps of an engine that takes the first message of its stream by a rule of its own.
+-- Steps of an engine that handles the first message of its stream by a separate rule.
 use Rattle.std.specs.Prelude.{◌≡◌, ℕ, Bool, List, [], ◌++◌, Option, None, Some, option_map, Result, Ok, Err}
 use Rattle.bgp_engine.specs.Below.{AreOctets, Message, Waits, Context}
 use Rattle.bgp_frame.specs.declared.end.End.TheVariants as end
@@ -24,11 +24,11 @@ pub record Starting (Outcome : Type 0) : Type 0 where
   pub walk : Walking Outcome
 
 module _ {Outcome : Type 0} where
-  -- by what the stream is read whose first message this is
+  -- the rules for the stream whose first message this is
   abbrev pub start_of : Message → Plan Outcome → Start Outcome
   start_of m plan = record { rules = plan.rules; first = plan.first m }
 
-  -- how a page's stream is read: as the page is, or in the context that both OPENs agree on, where that will do
+  -- how a page's stream is read: as the page is, or in the context that both OPENs agree on, where that is suitable
   abbrev pub starts_of : {P : Type 0} → (Context → Bool) → (P → Rules Outcome) → (P → Option Context → Plan Outcome) → Option (List ℕ) → P → Starts Outcome
   starts_of fits rules plan None page None = Ok (record { rules = rules page; first = None })
   starts_of fits rules plan None page (Some m) = Ok (start_of m (plan page None))
@@ -41,7 +41,7 @@ module _ {Outcome : Type 0} where
   SettlesOn None before plan m = before ≡ Ok (start_of m plan)
   SettlesOn (Some why) before plan m = before ≡ Err why
 
-  -- how a stream begins: without a context; by rules for each of its messages; or behind the first, with this collected
+  -- how a stream begins: without a context; by rules for each of its messages; or after the first, with this collected
   abbrev pub Begins : Begun → Result (Start Outcome) NoContext → Rules Outcome → List ℕ → List ℕ → Type 0
   Begins (Begun.Unagreed why) start rules told_old told_new = (start ≡ Err why) × (told_new ≡ told_old)
   Begins Begun.Plain start rules told_old told_new = (start ≡ Ok (record { rules = rules; first = None })) × (told_new ≡ told_old)
@@ -58,15 +58,15 @@ module _ {Outcome : Type 0} where
   reports_at Stage.Agreed s later r = reports_of s.walk later r
   reports_at (Stage.Unagreed why) s later r = r ≡ unagreed why end.Reset
 
-  -- what is reported of the rest of the stream
+  -- the report of the rest of the stream
   abbrev pub reports_in : Starting Outcome → List ℕ → Report → Type 0
   reports_in s later r = reports_at s.stage s later r
 
-  -- nothing was taken but what is held
+  -- nothing was consumed but what is held
   abbrev pub IsFresh : Walking Outcome → Type 0
   IsFresh w = w ≡ walking w.rules w.held 0 no_tally None
 
-  -- the first message waits, and nothing stands before it
+  -- the first message is incomplete, and nothing precedes it
   pub record IsFirst (w : Walking Outcome) : Type 0 where
     pub waits : Waits w.held
     pub counting : IsCounting w
@@ -89,7 +89,7 @@ module _ {Outcome : Type 0} where
   abbrev pub ReadyIn : Starting Outcome → Type 0
   ReadyIn s = ReadyAt s.stage s.walk
 
-  -- how a stream goes on once its first octets, which are held, were looked at, with this collected
+  -- how a stream continues once its first octets, which are held, were examined, with this collected
   abbrev pub SettlesAt : Stage → Starts Outcome → List ℕ → List ℕ → Walking Outcome → Type 0
   SettlesAt Stage.First starts held lines w = IsFirst w × (w.held ≡ held) × (lines ≡ [])
   SettlesAt Stage.Agreed starts held lines w =

@@ -1,15 +1,16 @@
--- Steps of a walk over the messages of a stream, which is a hearer of octets.
+-- Steps of a walk over the messages of a stream, which is a receiver of octets.
 use Rattle.std.specs.Prelude.{◌≡◌, ℕ, ◌+◌, ◌-◌, ◌≤◌, ◌^◌, Bool, true, List, [], ◌++◌, length, is_none, is_some, Option, None, Some, Result, Ok, Err}
 use Rattle.std.specs.Prelude.{if◌then◌else◌}
 use Rattle.bgp_engine.specs.Below.{AreOctets, End, HeadFault, Message, Waits, Hearer, Done, PullsNext, by_feed, left_to_do, given, IsToFeed}
-use Rattle.bgp_engine.specs.Below.{outcome_of}
+use Rattle.bgp_engine.specs.Below.{Kind, outcome_of}
+use Rattle.bgp_frame.specs.Kind.{plain}
 use Rattle.bgp_frame.specs.Hearing as hearing
 use Rattle.bgp_engine.specs.declared.tally.Tally.{Tally}
 use Rattle.bgp_engine.specs.declared.walk.Walk.{Walk}
 use Rattle.bgp_engine.specs.Report.{Report, behind, IsOver}
 use Rattle.bgp_engine.specs.Rules.{Rules, counted, passed, report_of}
 
--- the octets that are held, the place where they begin, the counts of what stands before them, and how the stream ended, if it has
+-- the held octets, the offset where they begin, the counts of what precedes them, and how the stream ended, if it has
 pub record Walking (Outcome : Type 0) : Type 0 where
   pub rules : Rules Outcome
   pub held : List ℕ
@@ -23,7 +24,7 @@ all_counts t = t.messages + t.took + t.withdrawn + t.resets
 abbrev pub reset_if : Bool → Option End
 reset_if resets = if resets then Some End.Reset else None
 
--- the end of a stream that goes no further, of which so many octets are held
+-- the end of a stream without more octets, of which this number of octets is held
 abbrev pub end_by : Option End → ℕ → End
 end_by None held = End.Wait held
 end_by (Some e) held = e
@@ -36,7 +37,7 @@ module _ {Outcome : Type 0} where
   abbrev pub walk_of : {P : Type 0} → (P → Rules Outcome) → Walk P → Walking Outcome
   walk_of rules w = walking (rules w.page) w.framer w.place w.tally w.ended
 
-  -- the octets that it takes in number, and what comes of it
+  -- its length, and its outcome
   abbrev pub outcome : Rules Outcome → Result Message HeadFault → ℕ × Outcome
   outcome rules (Ok m) = outcome_of rules.judge m
   outcome rules (Err f) = (0, rules.judge.of_fault f)
@@ -45,15 +46,16 @@ module _ {Outcome : Type 0} where
   ended_by rules (Ok m) = reset_if (rules.judge.resets (rules.judge.of_message m))
   ended_by rules (Err f) = Some End.Head
 
-  -- what is written of it, and the walk behind it
+  -- what is written of it, and the walk after it
   abbrev pub comes : Walking Outcome → Result Message HeadFault → List ℕ × Walking Outcome
   comes w what =
       let o = outcome w.rules what in
       (w.rules.line w.place o.0 w.held o.1, walking w.rules [] (w.place + passed w.rules o) (counted w.tally o.0 (w.rules.class o.1)) (ended_by w.rules what))
 
-  -- a walk takes octets until its stream has ended
-  abbrev pub walker : Hearer (Walking Outcome) (List ℕ × Walking Outcome) ℕ
+  -- a walk accepts octets until its stream has ended
+  abbrev pub walker : Hearer Kind (Walking Outcome) (List ℕ × Walking Outcome) ℕ
   walker = record {
+    types = plain;
     held = λ w. w.held;
     holding = λ w held. record w { held = held };
     listens = λ w. is_none w.ended;
@@ -62,45 +64,45 @@ module _ {Outcome : Type 0} where
     behind = λ w said. record said.1 { held = [] };
   }
 
-  -- what is reported where the stream goes no further
+  -- the report where the stream has no more octets
   abbrev pub closing : Walking Outcome → Report
   closing w = report_of w.rules w.place w.tally w.held [] (end_by w.ended (length w.held))
 
   abbrev pub reported : Done (Walking Outcome) ℕ → Report
   reported d = behind d.actions (closing d.session)
 
-  -- what is reported of what is held and of the octets behind it
+  -- the report of what is held and of the octets after it
   abbrev pub reports_of : Walking Outcome → List ℕ → Report → Type 0
   reports_of w later r = r ≡ reported (left_to_do walker w later)
 
-  -- no number passes its type
+  -- no count overflows
   pub record IsCounting (w : Walking Outcome) : Type 0 where
     pub octets : AreOctets w.held
     pub place : w.place + length w.held ≤ 2 ^ 60
     pub counts : all_counts w.tally ≤ w.place
 
-  -- nothing is missing for a last report, and a walk can count on where its stream goes on
+  -- nothing is missing for a last report, and a walk can continue counting where its stream continues
   pub record IsReady (w : Walking Outcome) : Type 0 where
     pub waits : Waits w.held
     pub counting : w.ended ≡ None → IsCounting w
     pub over : is_some w.ended ≡ true → IsOver (end_by w.ended (length w.held))
 
-  -- how many octets more can be counted
+  -- how many more octets can be counted
   abbrev pub room_of : Walking Outcome → ℕ
   room_of w = 2 ^ 60 - (w.place + length w.held)
 
-  -- there is nothing to judge, and the octets are to be fed; or so many of them were pulled, and the line was collected
+  -- there is nothing to judge, and the octets are to be fed; or this number of them was pulled, and the line was collected
   abbrev pub IsJudged : (old new : Walking Outcome) (told_old told_new octets : List ℕ) → Option ℕ → Type 0
   IsJudged old new told_old told_new octets None = IsToFeed old.held octets × (new ≡ old) × (told_new ≡ told_old)
   IsJudged old new told_old told_new octets (Some n) = (line : List ℕ) × PullsNext walker old octets n line new × (told_new ≡ told_old ++ line)
 
-  -- so many octets were fed, with a look at what is held then, and the line was collected
+  -- n octets were fed, what is held then was judged, and the line was collected
   pub record Hears (old new : Walking Outcome) (told_old told_new octets : List ℕ) (n : ℕ) : Type 0 where
     pub found : Option (List ℕ)
     pub call : by_feed walker old octets n found new
     pub told : told_new ≡ told_old ++ given found
 
-  -- octets were heard up to the rest, and what was written on them was collected
+  -- octets were received up to the rest, and what was written on them was collected
   pub record Moves (old new : Walking Outcome) (told_old told_new octets rest : List ℕ) : Type 0 where
     pub lines : List ℕ
     pub told : told_new ≡ told_old ++ lines

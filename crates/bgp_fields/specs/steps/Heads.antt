@@ -6,7 +6,7 @@ use Rattle.bgp_fields.specs.declared.head.Head.{Head}
 use Rattle.bgp_fields.specs.declared.kind.FieldKind.TheVariants.{AttributeFlags, AttributeType, AttributeLength}
 use Rattle.bgp_fields.specs.Parts.{attribute_len}
 
--- octets begin with an attribute, and have all of it
+-- octets begin with a whole attribute
 pub record IsHead (b : List ℕ) (h : Head) : Type 0 where
   pub flags : ℕ
   pub behind : List ℕ
@@ -16,7 +16,7 @@ pub record IsHead (b : List ℕ) (h : Head) : Type 0 where
   pub value : h.value.now ≡ take (attribute_len flags behind) (drop h.width behind)
   pub rest : h.rest.now ≡ drop (attribute_len flags behind) (drop h.width behind)
 
--- the fields of one that begins there
+-- the fields of the head of an attribute that begins at an offset
 abbrev pub head_fields : ℕ → ℕ → ℕ → List Field
 head_fields at kind width =
     record { at = at; len = 1; kind = AttributeFlags; group = Some (record { at = at; code = kind }) }

@@ -1,4 +1,4 @@
--- What plans in the program are.
+-- The values of plans in the program.
 use Rattle.std.specs.Prelude.{None}
 use Rattle.bgp_fields.specs.declared.part.MessagePart.{MessagePart}
 use Rattle.bgp_fields.specs.declared.part.SectionPart.{SectionPart}

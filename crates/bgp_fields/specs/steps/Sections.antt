@@ -1,4 +1,4 @@
--- What borrowed sections of a body are.
+-- The values of borrowed sections of a body.
 use Rattle.bgp_update.specs.Prelude.{Parts}
 use Rattle.bgp_fields.specs.declared.sections.Sections.{Sections}
 

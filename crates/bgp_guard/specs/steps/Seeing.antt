@@ -1,4 +1,4 @@
--- What one side sees of what the code keeps, and steps of hearing it.
+-- What one side sees of what the code keeps, and steps of receiving on it.
 use Rattle.std.specs.Prelude.{◌≡◌, ℕ, ◌<◌, ◌≤◌, Bool, List, [], ◌∷◌, length, drop, Option, None, Some, Result, Ok, Err}
 use Rattle.bgp_frame.specs.declared.kind.Kind.{Kind}
 use Rattle.bgp_open.specs.declared.fault.OpenFault.{OpenFault}
@@ -15,31 +15,31 @@ use Rattle.bgp_guard.specs.Hearing.{heard, peer_behind, ready_behind}
 use Rattle.bgp_guard.specs.Came.{CameIn}
 use Rattle.bgp_guard.specs.Halves.{half_with}
 
--- what one side sees, of which some octets are held, and of the other some
+-- what one side sees, with these held octets of it and of the other
 abbrev pub sight_with : List ℕ → List ℕ → Stage → Line → Line → Sight
 sight_with held others stage this other = record { stage = stage; this = half_with held this; other = half_with others other }
 
 abbrev pub sight_of : Stage → code.Half → code.Half → Sight
 sight_of stage this other = sight_with this.framer other.framer stage this.line other.line
 
--- what the OPEN says whose body was read, where it has no fault
+-- what an OPEN says, by the reading of its body, where it has no fault
 abbrev pub said_in : Result Open OpenFault → Option Said
 said_in (Ok o) = Some (said_by o)
 said_in (Err fault) = None
 
--- octets that are messages: where they are of an OPEN, they are read as it
+-- octets of these messages: of one OPEN, and read as it
 pub record IsReadOpen (ns : List Message) (b : List ℕ) : Type 0 where
   pub value : Open
   pub is : ns ≡ Message.Open value ∷ []
   pub reads : reading_of (drop 19 b) ≡ Ok value
 
--- octets that stand for an UPDATE: their number tells an UPDATE from a KEEPALIVE
+-- octets that replace an UPDATE: their length distinguishes an UPDATE from a KEEPALIVE
 abbrev pub IsReadUpdate : List Message → List ℕ → Type 0
 IsReadUpdate (Message.Update u ∷ later) b = 23 ≤ length b
 IsReadUpdate (Message.Keepalive ∷ []) b = length b ≡ 19
 IsReadUpdate _ b = ⊥
 
--- what is to be known of the octets that stand for a message of a kind
+-- what is known of the octets that replace a message of a kind
 abbrev pub IsReadIn : Kind → List Message → List ℕ → Type 0
 IsReadIn Kind.Open ns b = IsReadOpen ns b
 IsReadIn Kind.Update ns b = IsReadUpdate ns b
@@ -48,7 +48,7 @@ IsReadIn kind ns b = 0 < length ns
 abbrev pub half_behind : Kind → List Message → Half → Half
 half_behind kind ns h = record h { peer = peer_behind kind ns h.peer; ready = ready_behind kind h.ready }
 
--- what is held came to this
+-- the result of what is held
 pub record IsSettled (rules : Rules) (silent : Bool) (old : Sight) (came : Came) (new : Sight) : Type 0 where
   pub after : new ≡ heard rules silent old
   pub told : CameIn rules silent old came

@@ -1,4 +1,4 @@
--- Steps of the proof that a host does what its session wants done. Only private functions cite them.
+-- Steps of the proof that a host carries out what its session wants. Only private functions cite them.
 use Rattle.std.specs.Prelude.{◌≡◌, ◌<◌, ◌≤◌, ℕ, Bool, true, false, nat_lt, List, [], ◌∷◌, length, drop, Option, None, Some, if◌then◌else◌}
 use Rattle.bgp_machine.specs.declared.action.Action.{Action}
 use Rattle.bgp_machine.specs.declared.state.State.{State}
@@ -9,7 +9,7 @@ use Rattle.bgp_host.specs.Records.{Notice, Stood, Grows}
 use Rattle.bgp_host.specs.Deeds.{Records, CarriesOut}
 use Rattle.bgp_host.specs.Turns.{Cause, Heard, Turn, link_after, turn_ticks, turn_notices, IsTurn, Hosted, Runs}
 
--- actions were carried out, and the state was told behind them
+-- actions were carried out, and the state was reported after them
 pub record Acts (own : List ℕ) (first : Link) (actions : List Action) (state : State) (old new : Records) (link : Link) : Type 0 where
   pub between : Option (List Notice)
   pub carried : CarriesOut own first actions old (record { calls = new.calls; ticks = new.ticks; notices = between }) link
@@ -25,25 +25,25 @@ pub record OneTurn (cause : Cause) (old new : Hosted) (link : Link) : Type 0 whe
   pub noticed : Grows old.records.notices new.records.notices (turn_notices turn)
   pub became : link ≡ link_after turn
 
--- no connection came to stand
+-- no connection came up
 abbrev pub IsNotUp : Link → Type 0
 IsNotUp Up = ⊥
 IsNotUp _ = Unit {0}
 
--- ---- octets that come
+-- ---- octets received
 
--- a pull did something
+-- a pull made progress
 pub record PullsOn (old : Hosted) (piece : List ℕ) (n : ℕ) (new : Hosted) : Type 0 where
   pub within : n ≤ length piece
   pub lighter : weight new.session (drop n piece) < weight old.session piece
   pub runs : Runs old (Heard piece n ∷ []) new
 
--- a pull did nothing
+-- a pull made none
 pub record PullsNone (old : Hosted) (piece : List ℕ) (new : Hosted) : Type 0 where
   pub runs : Runs old (Heard piece 0 ∷ []) new
   pub all : listens new.session.standing.state ≡ true → piece ≡ []
 
--- how many octets a pull took, where it did something
+-- the number of octets that a pull took, if it made progress
 abbrev pub taken_by : ℕ → Bool → Option ℕ
 taken_by n true = Some n
 taken_by n false = if nat_lt 0 n then Some n else None

@@ -1,4 +1,4 @@
--- What is left for a session to do of a piece, between two pulls. Steps of proofs alone cite it.
+-- What remains for a session to do with a piece, between two pulls. Only steps of proofs cite it.
 use Rattle.std.specs.Prelude.{ℕ, List}
 use Rattle.bgp_frame.specs.Hearing as hearing
 use Rattle.bgp_machine.specs.Cutting.{Done}

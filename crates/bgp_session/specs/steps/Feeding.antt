@@ -12,7 +12,7 @@ with_machine p x = pair (with_session p.this x) p.other p.notes
 abbrev pub fed_on : Side → Pair → List ℕ → Pair
 fed_on side p rest = all_acted side (with_machine p (left_to_do p.this.session rest).session) (left_to_do p.this.session rest).actions
 
--- a pull did something, and the rest of the piece is left
+-- a pull did something, and the rest of the piece remains
 pub record FeedsOn (side : Side) (p : Pair) (piece : List ℕ) (n : ℕ) (q : Pair) : Type 0 where
   pub within : n ≤ length piece
   pub lighter : weight q.this.session (drop n piece) < weight p.this.session piece
@@ -28,7 +28,7 @@ Feeds side p piece q (Some n) = FeedsOn side p piece n q
 abbrev pub left_seen : Side → Machine → List ℕ → List Sight
 left_seen side x rest = settled_seen side x ++ octets_seen side (settled x).session rest
 
--- between two pulls, an observer was told what it is to be told of what was taken
+-- between two pulls, the observer got its reports of what was consumed
 abbrev pub SeesPull : {S : Type 0} → (S → Sight → S) → S → S → Side → Machine → Machine → List ℕ → Option ℕ → Type 0
 SeesPull after s t side x y piece None = observed after s (left_seen side x piece) ≡ t
 SeesPull after s t side x y piece (Some n) = observed after s (left_seen side x piece) ≡ observed after t (left_seen side y (drop n piece))

@@ -15,7 +15,7 @@ use Rattle.bgp_session.specs.World.{World, end_of, seen_by, with_pair, feeds, fe
 abbrev pub Rests : World → Type 0
 Rests w = IsAtRest w.a.session × IsAtRest w.b.session
 
--- a wire and its answers, and an observer, before and behind a turn
+-- a wire and its answers, and an observer, before and after a turn
 pub record Wired (S : Type 0) : Type 0 where
   pub honest : Bool
   pub after : S → Sight → S
@@ -24,19 +24,19 @@ pub record Wired (S : Type 0) : Type 0 where
   pub trace_old : Trace S
   pub trace_new : Trace S
 
--- these answers were given, in these turns, and the observer was told what they show
+-- these answers were given, in these turns, and the observer got reports of what they show
 pub record Gives {S : Type 0} (wired : Wired S) (given : List Bool) (turns : List Turn) : Type 0 where
   pub told : wired.new ≡ wired.old ++ given
   pub counted : wired.trace_new.failed ≡ failed_behind wired.trace_old.failed given
   pub kept : Grows wired.trace_old.calls wired.trace_new.calls (calls_in turns)
   pub gave : answers_in (calls_in turns) ≡ given
 
--- what the observer was told is what these turns show
+-- what was reported to the observer is what these turns show
 abbrev pub Observes : {S : Type 0} → Wired S → List Turn → Type 0
 Observes wired turns = wired.trace_new.seen ≡ observed wired.after wired.trace_old.seen (sights_in turns)
 
--- a turn was played up to what another turn is: where the wire is honest, the turn used up the answers that were given, and left all later ones,
--- and asked the wire for what it was asked, and told the observer of all that it shows
+-- a turn was played up to another turn: the wire gave these answers to the calls of these turns, and where it is honest, the turn used up these
+-- answers and left all later ones, and the observer got reports of what the turns show
 pub record PlaysOn {S : Type 0} (wired : Wired S) (turn rest : List Bool → Ran) : Type 0 where
   pub given : List Bool
   pub turns : List Turn
@@ -48,7 +48,7 @@ pub record PlaysOn {S : Type 0} (wired : Wired S) (turn rest : List Bool → Ran
 abbrev pub Plays : {S : Type 0} → Wired S → (List Bool → Ran) → World → Type 0
 Plays wired turn w = PlaysOn wired turn (ran w)
 
--- a part of a delivery was played: these octets are left to pass
+-- a part of a delivery was played: these octets remain to be passed
 pub record Delivers {S : Type 0} (wired : Wired S) (turn : List Bool → Ran) (side : Side) (octets : List ℕ) (w : World) : Type 0 where
   pub pieces : ℕ
   pub enough : length octets ≤ pieces
@@ -74,7 +74,7 @@ Sends this other u this_new other_new None =
     (refusal_of this.session u ≡ None) × ((notes : List (Side × ℕ × ℕ)) → sent (pair this other notes) u ≡ pair this_new other_new notes)
 Sends this other u this_new other_new (Some fault) = (refusal_of this.session u ≡ Some fault) × (this_new ≡ this) × (other_new ≡ other)
 
--- an UPDATE was tried by a side
+-- a side tried to send an UPDATE
 abbrev pub sent_if : Option SendFault → Side → Update → World → World
 sent_if None side u w = with_pair side w (sent (seen_by side w) u)
 sent_if (Some fault) side u w = w
@@ -82,6 +82,6 @@ sent_if (Some fault) side u w = w
 abbrev pub IsTried : Side → Update → World → Option SendFault → World → Type 0
 IsTried side u w found v = (refusal_of (end_of side w).session u ≡ found) × (v ≡ sent_if found side u w)
 
--- each number of what these moves sent is within its field, for the answers that were given, whatever later ones come
+-- each number of what these moves sent is within its field, for the answers that were given, whatever the later ones are
 abbrev pub HaveSoFar : Bool → List Move → World → List Bool → Type 0
 HaveSoFar honest moves w answers = honest ≡ true → (later : List Bool) → AllSendRanges moves w (answers ++ later)

@@ -1,4 +1,4 @@
-//! How often a reader and a writer are asked.
+//! How often a reader and a writer are called.
 
 use super::failing::{Drip, Sheet};
 use super::tool::{TOOLS, Tool, input_of, run_tool, run_tool_within};
@@ -9,7 +9,7 @@ use std::test::*;
 /// Two KEEPALIVE messages.
 const TWO: &str = "M001304M001304";
 
-/// A run of two KEEPALIVE messages with a reader that is asked at most so many times: the answer, and how many octets are written.
+/// A run of two KEEPALIVE messages with a reader that is called at most `turns` times: the result, and the number of octets written.
 fn assert_stopped(
     rt: &(impl Abort + AllocGlobal),
     tool: Tool,
@@ -40,7 +40,7 @@ fn a_reader_that_gives_one_octet_is_asked_twice(rt: HostRuntime) -> Result<(), F
     Ok(())
 }
 
-/// One turn too few to meet the end: the lines stand, and no last line follows them.
+/// One turn too few to reach the end: the lines are written, and no last line follows them.
 #[test]
 fn a_reader_that_is_not_asked_for_its_end(rt: HostRuntime) -> Result<(), Fail> {
     for (tool, written) in [
@@ -58,7 +58,7 @@ fn a_reader_that_is_not_asked_for_its_end(rt: HostRuntime) -> Result<(), Fail> {
     Ok(())
 }
 
-/// As many turns as are needed, one for the block and one for the end: each asks for 4096 octets, and a block is written in one go.
+/// The turns needed, one for the block and one for the end: each reads up to 4096 octets, and a block is written in one call.
 fn assert_ended(rt: &(impl Abort + AllocGlobal), tool: Tool, writes: u32) -> Result<(), Fail> {
     let input = input_of(rt.alloc(), tool, TWO)?;
     let mut reader = Drip::new(input.as_slice(), 4096);
@@ -91,7 +91,7 @@ fn a_reader_that_is_asked_often_enough(rt: HostRuntime) -> Result<(), Fail> {
     Ok(())
 }
 
-/// A run that asks its reader once alone.
+/// A run that calls its reader only once.
 fn assert_asked_once(
     rt: &(impl Abort + AllocGlobal),
     tool: Tool,
@@ -126,7 +126,7 @@ fn nothing_is_read_behind_the_end(rt: HostRuntime) -> Result<(), Fail> {
     assert_asked_once(&rt, Tool::Narrow, withdrawn)
 }
 
-/// A reader isn't asked behind a bad character either.
+/// A reader isn't called after a bad character either.
 #[test]
 fn nothing_is_read_behind_a_bad_character(rt: HostRuntime) -> Result<(), Fail> {
     for tool in [Tool::ShowText, Tool::CheckText, Tool::FromHex] {

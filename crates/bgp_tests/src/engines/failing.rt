@@ -1,4 +1,4 @@
-//! Readers and writers over memory that give little at a time, or fail. They count how often they are asked, and take no memory.
+//! Readers and writers over memory that handle few octets at a time, or fail. They count their calls, and allocate nothing.
 
 use arrayvec::ArrayVec;
 use std::io::{self, ErrorKind, Read, Write};
@@ -10,9 +10,9 @@ pub(super) struct Drip<'a> {
     step: usize,
     calls_left: Option<u32>,
     pub(super) has_failed: bool,
-    /// How often it was asked.
+    /// The number of its calls.
     pub(super) calls: u32,
-    /// The longest buffer that it was asked to fill, and the shortest.
+    /// The longest buffer that it was given to fill, and the shortest.
     pub(super) longest: usize,
     pub(super) shortest: usize,
 }
@@ -65,7 +65,7 @@ impl Read for Drip<'_> {
 #[derive(Drop)]
 pub(super) struct Sheet {
     pub(super) text: ArrayVec<u8, 8192>,
-    /// How often it was asked to take something.
+    /// The number of its calls.
     pub(super) writes: u32,
     calls_left: Option<u32>,
     pub(super) has_failed: bool,
@@ -87,7 +87,7 @@ impl Sheet {
         }
     }
 
-    /// Takes this many octets, and then fails: by an error, or by taking nothing.
+    /// Accepts this number of octets, and then fails: by an error, or by accepting nothing.
     pub(super) fn with_room(mut self, room: usize, takes_nothing: bool) -> Sheet {
         self.room = room;
         self.takes_nothing = takes_nothing;

@@ -6,7 +6,7 @@ use bgp_engine::*;
 use std::process::Abort;
 use std::test::*;
 
-/// An engine, what it reads, the lines that it writes of that, and what it writes last.
+/// An engine, its input, the lines that it writes for that, and what it writes last.
 const RUNS: [(Tool, &str, &str, &str); 13] = [
     (
         Tool::Show,
@@ -83,7 +83,7 @@ const RUNS: [(Tool, &str, &str, &str); 13] = [
     ),
 ];
 
-/// A run over a reader that fails: no last line is written, and it isn't asked again. Answers whether it failed.
+/// A run over a reader that fails: no last line is written, and it isn't called again. Returns whether it failed.
 fn assert_read_fault(
     rt: &(impl Abort + AllocGlobal),
     tool: Tool,
@@ -119,7 +119,7 @@ fn failing_readers(rt: HostRuntime) -> Result<(), Fail> {
     Ok(())
 }
 
-/// A run over a writer that fails at a call: a front is written, and it isn't asked again. Answers whether it failed.
+/// A run over a writer that fails at a call: a prefix of the output is written, and it isn't called again. Returns whether it failed.
 fn assert_write_fault(
     rt: &(impl Abort + AllocGlobal),
     tool: Tool,
@@ -187,7 +187,7 @@ fn writers_with_too_little_room(rt: HostRuntime) -> Result<(), Fail> {
     Ok(())
 }
 
-/// The counts of a run: messages, taken, withdrawn, resets.
+/// The counts of a run: messages, accepted, withdrawals, resets.
 fn assert_tally(
     rt: &(impl Abort + AllocGlobal),
     tool: Tool,

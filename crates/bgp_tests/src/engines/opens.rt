@@ -1,4 +1,4 @@
-//! The engines that agree by the OPENs of both directions: what is agreed on however little a reader gives, and which fault is told.
+//! The engines that agree by the OPENs of both directions: what is agreed on however little a reader gives, and which fault is reported.
 
 use super::failing::{Drip, Sheet};
 use super::tool::{Tool, input_of};
@@ -21,24 +21,24 @@ const NARROW: &str = "M 002b01 04 fde9 005a c0000202 0e 020c 010400010001 010400
 
 const PLAIN: &str = "M 001d01 04 fde9 005a c0000202 00";
 
-/// My Autonomous System 65001, and AS 65002 by the capability: what a speaker without that capability doesn't see (RFC 6793, section 4.1).
+/// My Autonomous System 65001, and AS 65002 by the capability, which a 2-octet-AS speaker ignores (RFC 6793, section 4.1).
 const UNSEEN: &str =
     "M 003101 04 fde9 005a c0000203 14 0212 010400010001 010400020001 41040000fdea";
 
-/// What BIRD 2.0.12 of AS 65001 without AS numbers of four octets and GoBGP 3.10.0 of AS 65001 with them sent each other.
+/// The OPENs that BIRD 2.0.12 of AS 65001 without AS numbers of four octets and GoBGP 3.10.0 of AS 65001 with them sent each other.
 const BIRD: &str = "M 0029 01 04 fde9 00f0 c0000209 0c 020a 010400010001 0200 4600";
 
 const GOBGP: &str =
     "M 003b 01 04 fde9 005a c0000208 1e 021c 0200 490402766d00 010400010001 41040000fde9 0506000100010002";
 
-/// AS 65001 that sends path identifiers of IPv6, and AS 65002 that reads them (RFC 7911, section 4).
+/// AS 65001 that sends path identifiers of IPv6, and AS 65002 that receives them (RFC 7911, section 4).
 const SENDS: &str =
     "M 003701 04 fde9 005a c0000201 1a 0218 010400010001 010400020001 41040000fde9 450400020102";
 
 const READS: &str =
     "M 003701 04 fdea 005a c0000202 1a 0218 010400010001 010400020001 41040000fdea 450400020101";
 
-/// One that offers to read them of IPv6 by a Send/Receive of 4 behind a good one, and isn't understood.
+/// One that offers to receive them for IPv6, but with a Send/Receive of 4 after a good one, and so isn't understood.
 const UNKNOWN: &str =
     "M 003b01 04 fdea 005a c0000202 1e 021c 010400010001 010400020001 41040000fdea 4508 00020101 00010104";
 
@@ -46,7 +46,7 @@ const UNKNOWN: &str =
 const UPDATE: &str =
     "M 0048 02 0000 0031 800e1a 0002 01 10 20010db8000000000000000000000001 00 2020010db8 40010100 40020602010000fdea 40050400000064";
 
-/// What to do by both OPENs.
+/// The commands that agree by both OPENs.
 #[derive(Clone, Copy, Debug, PartialEq, Eq)]
 enum Way {
     Show,
@@ -141,7 +141,7 @@ fn stream_of(alloc: Global, first: &str, second: &str) -> Result<Vec<u8>, Fail> 
     Ok(octets)
 }
 
-/// By both OPENs comes what comes by the flags, whatever stands behind the first message of either.
+/// The output by both OPENs is that by the flags, whatever follows the first message of either.
 fn assert_agreed(
     rt: &(impl Abort + AllocGlobal),
     way: Way,
@@ -203,7 +203,7 @@ fn contexts_of_two_opens(rt: HostRuntime) -> Result<(), Fail> {
     assert_agreed(&rt, Way::Narrow, OURS, THEIRS, &context(false, true, true))
 }
 
-/// Where there is no context nothing is written, and no more is read than the first message.
+/// Without a context nothing is written, and no more is read than the first message.
 fn assert_no_context(
     rt: &(impl Abort + AllocGlobal),
     way: Way,
@@ -241,7 +241,7 @@ fn path_identifiers_are_not_read(rt: HostRuntime) -> Result<(), Fail> {
     Ok(())
 }
 
-/// A reader that fails before the first message is whole is told, whatever the other direction has.
+/// A reader that fails before the first message is complete is reported, whatever the other direction has.
 fn assert_read_fault(
     rt: &(impl Abort + AllocGlobal),
     way: Way,
@@ -256,7 +256,7 @@ fn assert_read_fault(
     assert!(rt; sheet.text.is_empty(), "{way:?}");
 }
 
-/// So is one that isn't asked as often as it needs.
+/// The same for one that isn't called often enough.
 fn assert_too_few(
     rt: &(impl Abort + AllocGlobal),
     way: Way,

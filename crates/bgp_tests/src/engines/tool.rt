@@ -33,7 +33,7 @@ pub(super) const TOOLS: [Tool; 8] = [
     Tool::Clean,
 ];
 
-/// Text with each `M` spelled out as the digits of a Marker.
+/// Text with each `M` replaced by the digits of a Marker.
 fn text_of(alloc: Global, text: &str) -> Result<Vec<u8>, Fail> {
     let mut spelled = Vec::new(alloc);
     for character in text.bytes() {
@@ -46,7 +46,7 @@ fn text_of(alloc: Global, text: &str) -> Result<Vec<u8>, Fail> {
     Ok(spelled)
 }
 
-/// Octets by their digits, `M` standing for a Marker.
+/// Octets by their digits, where `M` is a Marker.
 fn octets_of(alloc: Global, text: &str) -> Result<Vec<u8>, Fail> {
     let mut digits = Vec::new(alloc);
     for character in text.bytes() {
@@ -62,7 +62,7 @@ fn octets_of(alloc: Global, text: &str) -> Result<Vec<u8>, Fail> {
     }
 }
 
-/// What an engine reads, by its digits.
+/// The input of an engine, by its digits.
 pub(super) fn input_of(alloc: Global, tool: Tool, digits: &str) -> Result<Vec<u8>, Fail> {
     match tool {
         Tool::ShowText | Tool::CheckText | Tool::FromHex => text_of(alloc, digits),
@@ -70,7 +70,7 @@ pub(super) fn input_of(alloc: Global, tool: Tool, digits: &str) -> Result<Vec<u8
     }
 }
 
-/// What an engine writes: octets by their digits, or text.
+/// The output of an engine: octets by their digits, or text.
 pub(super) fn output_of(alloc: Global, tool: Tool, text: &str) -> Result<Vec<u8>, Fail> {
     match tool {
         Tool::FromHex | Tool::Narrow | Tool::Clean => octets_of(alloc, text),

@@ -10,7 +10,7 @@ use std::net::Net;
 use std::process::Abort;
 use std::test::*;
 
-/// A session that is told that no connection can be had, and an UPDATE that can't be sent.
+/// A session that finds no connection, and an UPDATE that can't be sent.
 const REFUSED: &str =
     "a as 65001 peer 65002 id 192.0.2.1 hold 90\nb as 65002 peer 65001 id 192.0.2.2 hold 30\nstart a\nrefuse a\nsend b 00000000\n";
 
@@ -19,7 +19,7 @@ const REFUSED_TEXT: &str = "refused b 1\nstate a Idle\nstate b Idle\n";
 const REFUSED_TRACE: &str =
     "move start a\na start: Connect; arm retry 120; connect\nmove refuse a\na failed: Idle; disarm retry\nmove send b\nb refused 1: Idle\nrefused b 1\nstate a Idle\nstate b Idle\n";
 
-/// A writer that takes so many octets, and then fails: by an error, or by taking none.
+/// A writer that accepts this number of octets, and then fails: by an error, or by accepting none.
 #[derive(Drop)]
 struct Full {
     text: Vec<u8>,
@@ -47,7 +47,7 @@ impl Write for Full {
     }
 }
 
-/// A run of the script, whose lines are traced or not.
+/// A run of the script, with or without a trace.
 fn run(rt: &impl AllocGlobal, is_traced: bool, output: &mut Full) -> Result<Tally, ToolFault> {
     if REFUSED.len() > SCRIPT_MAX {
         return Err(ToolFault::Read);
@@ -59,7 +59,7 @@ fn run(rt: &impl AllocGlobal, is_traced: bool, output: &mut Full) -> Result<Tall
     run_loop(rt.alloc(), script, &mut MemoryWire, output)
 }
 
-/// What fits is written, and the run fails where something doesn't.
+/// What fits is written, and the run fails if something doesn't.
 fn assert_front(
     rt: &(impl Abort + AllocGlobal),
     is_traced: bool,

@@ -9,11 +9,11 @@ use bgp_session::{MemoryWire, Side, Wire};
 use std::process::Abort;
 use std::test::*;
 
-/// Two speakers come up, A announces a route, and then stops.
+/// Two speakers establish a session, A announces a route, and then stops.
 const TWO_SPEAKERS: &str =
     "a as 65001 peer 65002 id 192.0.2.1 hold 90 as4 ip4\nb as 65002 peer 65001 id 192.0.2.2 hold 30 as4 ip4\nstart a\nstart b\njoin\ndeliver b 9999\ndeliver a 9999\ndeliver b 9999\nsend a 000000144001010040020602010000fde8400304c0000201080a\ndeliver b 45\nstop a\ndeliver b 9999\n";
 
-/// A wire that answers false at one call of `join` and `pass`, and counts how often it is cut, and what it hands to B.
+/// A wire that returns false at one call of `join` and `pass`, and counts how often it is cut, and what it hands to B.
 #[derive(Drop)]
 struct Flaky {
     calls: u32,
@@ -77,7 +77,7 @@ impl Wire for Flaky {
     }
 }
 
-/// A wire that puts a KEEPALIVE in the place of the first octets that pass.
+/// A wire that passes a KEEPALIVE instead of the first octets.
 #[derive(Drop)]
 struct Lying {
     passed: bool,
@@ -134,7 +134,7 @@ fn assert_lines<W: Wire>(
 const WHOLE: &str =
     "round 1\na sent 1 got 0 gone 0 notes 6/0\nb sent 0 got 1 gone 0 notes -\nstate a Idle\nstate b Idle\n";
 
-/// What is written where the connection, an OPEN, a KEEPALIVE, the UPDATE or the NOTIFICATION is lost, and how often the wire is cut.
+/// The output if the connection, an OPEN, a KEEPALIVE, the UPDATE or the NOTIFICATION is lost, and how often the wire is cut.
 const LOST: [(&str, u32); 6] = [
     ("refused a 1\nstate a Idle\nstate b Idle\n", 0),
     (
@@ -169,7 +169,7 @@ fn a_piece_is_lost(rt: HostRuntime) -> Result<(), Fail> {
     Ok(())
 }
 
-/// Each side is handed what the other said: B an OPEN, a KEEPALIVE, an UPDATE and a NOTIFICATION, A an OPEN and a KEEPALIVE. The wire is cut
+/// Each side is handed what the other sent: B an OPEN, a KEEPALIVE, an UPDATE and a NOTIFICATION, A an OPEN and a KEEPALIVE. The wire is cut
 /// once.
 #[test]
 fn each_piece_goes_to_its_side(rt: HostRuntime) -> Result<(), Fail> {

@@ -1,4 +1,4 @@
-//! Copies equal their source: of each kind of attribute, verdict, message and action, and with these of all that they hold.
+//! Copies equal their source: for each kind of attribute, verdict, message and action, and so for all that they hold.
 
 use super::*;
 use bgp_attr::{Attr, Judged, MpReach, MpUnreach, Tlv, TlvIter, judge};
@@ -10,7 +10,7 @@ use bgp_update::{Invalid, PathInfo, Routes, Verdict, View, reconcile, view_updat
 use bgp_wire::TryCopy;
 use std::process::Abort;
 
-// Each `number_of` names each case of its type. Where one is new, it gets the next number, and its value stands behind the others below.
+// Each `number_of` names each case of its type. A new one gets the next number, and its value follows the others below.
 
 fn assert_copied<R: Abort + AllocGlobal, T: TryCopy + PartialEq + Drop>(
     rt: &R,
@@ -21,8 +21,8 @@ fn assert_copied<R: Abort + AllocGlobal, T: TryCopy + PartialEq + Drop>(
     Ok(())
 }
 
-/// The attributes of an UPDATE inside an AS, of each type and of one that isn't recognised; then an ORIGIN of 3, which withdraws, an
-/// AS4_AGGREGATOR of 2 octets, which is discarded, and a well-known attribute that isn't known, which resets.
+/// The attributes of an UPDATE inside an AS, of each type and of one that isn't recognised; then an ORIGIN of 3, which is a treat-as-withdraw, an
+/// AS4_AGGREGATOR of 2 octets, which is discarded, and an unrecognised well-known attribute, which is a reset.
 const ATTRIBUTES: &[u8] = &[
     0x80, 14, 11, 0, 1, 1, 4, 192, 0, 2, 1, 0, 8, 10, // MP_REACH_NLRI of IPv4
     0x80, 14, 26, 0, 2, 1, 16, // MP_REACH_NLRI of IPv6
@@ -48,7 +48,7 @@ const ATTRIBUTES: &[u8] = &[
     0, 99, 0, // a well-known one
 ];
 
-/// The session that they come on.
+/// The session on which they are received.
 const INSIDE: Context = Context {
     internal: true,
     as4: false,
@@ -96,7 +96,7 @@ fn assert_judged_copied(
     Ok(())
 }
 
-/// What comes of an attribute of at most 4075 octets is copied; it has this number.
+/// The judgement of an attribute of at most 4075 octets equals its copy, and has this number.
 fn assert_judgement_copied(
     rt: &(impl Abort + AllocGlobal),
     tlv: &Tlv<'_>,
@@ -119,7 +119,7 @@ fn judgements(rt: HostRuntime) -> Result<(), Fail> {
     Ok(())
 }
 
-/// The plain UPDATE with an ORIGIN of 3, and with a length of Withdrawn Routes that its body doesn't have.
+/// The plain UPDATE with an ORIGIN of 3, and with a length of Withdrawn Routes that exceeds its body.
 const WITHDRAWN: &[u8] = &[
     0, 0, 0, 0x14, 0x40, 1, 1, 3, 0x40, 2, 6, 2, 1, 0, 0, 0xfd, 0xe8, 0x40, 3, 4, 192, 0, 2, 1, 8,
     10,
@@ -217,7 +217,7 @@ fn capabilities(rt: HostRuntime) -> Result<(), Fail> {
     Ok(())
 }
 
-/// A message of each kind: an UPDATE that is taken, one that withdraws its routes, a KEEPALIVE, an OPEN, and a NOTIFICATION, which is told.
+/// A message of each kind: an UPDATE that is accepted, one that is treated as a withdrawal, a KEEPALIVE, an OPEN, and a NOTIFICATION.
 const MESSAGES: [(Kind, &[u8]); 5] = [
     (Kind::Update, PLAIN),
     (Kind::Update, WITHDRAWN),
@@ -226,7 +226,7 @@ const MESSAGES: [(Kind, &[u8]); 5] = [
     (Kind::Notification, &[6, 2, 0x41]),
 ];
 
-/// The messages as a stream, and behind them 19 octets whose header has a fault.
+/// The messages as a stream, and after them 19 octets whose header has a fault.
 fn stream(alloc: Global) -> Result<Vec<u8>, AllocError> {
     let mut octets = Vec::new(alloc);
     for (kind, body) in MESSAGES {
@@ -288,7 +288,7 @@ fn assert_action_copied(
     Ok(())
 }
 
-/// An UPDATE with a route of IPv6 in MP_REACH_NLRI and one of IPv4 behind its attributes.
+/// An UPDATE with a route of IPv6 in MP_REACH_NLRI and one of IPv4 after its attributes.
 const BOTH: &[u8] = &[
     0, 0, 0, 0x31, 0x80, 14, 26, 0, 2, 1, 16, 0x20, 0x01, 0x0d, 0xb8, 0, 0, 0, 0, 0, 0, 0, 0, 0, 0,
     0, 1, 0, 32, 0x20, 0x01, 0x0d, 0xb8, 0x40, 1, 1, 0, 0x40, 2, 6, 2, 1, 0, 0, 0xfd, 0xe8, 0x40,
@@ -438,7 +438,7 @@ fn refusals_to_send(rt: HostRuntime) -> Result<(), Fail> {
     Ok(())
 }
 
-/// Two speakers come up, and A sends an UPDATE and stops; before, B sends one that is refused.
+/// Two speakers establish a session, and A sends an UPDATE and stops; before, B sends one that is refused.
 fn schedule(alloc: Global) -> Result<Vec<Move>, Fail> {
     let refused = Move::Send(Side::B, plain(alloc)?);
     let sent = Move::Send(Side::A, plain(alloc)?);
@@ -457,7 +457,7 @@ fn schedule(alloc: Global) -> Result<Vec<Move>, Fail> {
     ]?)
 }
 
-/// What comes of that schedule.
+/// The report of that schedule.
 fn report(alloc: Global) -> Result<Report, Fail> {
     let a = Config::new(65001, 65002, [192, 0, 2, 1], 90, true, true, false);
     let b = Config::new(65002, 65001, [192, 0, 2, 2], 30, true, true, false);

@@ -4,7 +4,7 @@ use bgp_host::{Clock, Connection, Observer};
 use bgp_machine::{State, Timer};
 use bgp_update::{PathInfo, Routes, Update};
 
-/// A connection that can be had or not, of which one send fails; it knows how many octets the longest send had.
+/// A connection that can be had or not, of which one send fails; it keeps the length of the longest send.
 #[derive(Drop)]
 pub(crate) struct Line {
     pub(crate) stands: bool,
@@ -78,7 +78,7 @@ impl Clock for Running {
     }
 }
 
-/// What was told of routes, and the state that was told last.
+/// What was reported of routes, and the last state.
 #[derive(Clone, Copy, Debug, PartialEq, Eq)]
 pub(crate) struct Told {
     pub(crate) routes: usize,
@@ -87,7 +87,7 @@ pub(crate) struct Told {
     pub(crate) state: State,
 }
 
-/// Nothing was told.
+/// Nothing was reported.
 pub(crate) const NOTHING: Told = Told {
     routes: 0,
     gone: 0,

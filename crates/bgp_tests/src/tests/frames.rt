@@ -1,4 +1,4 @@
-//! A framer that is made as any value is by default.
+//! A framer that is made by `Default`.
 
 use bgp_frame::*;
 use std::test::*;

@@ -1,4 +1,4 @@
-//! What a host does where a send fails, where no connection can be had, and where octets come one by one.
+//! What a host does if a send fails, if no connection can be had, and if octets arrive one by one.
 
 use crate::tests::fakes::{Line, NOTHING, Running, STILL, Told};
 use crate::tests::longest::repeated;
@@ -34,14 +34,14 @@ fn host(stands: bool, failing: u32) -> Host<Line, Running, Told> {
     Host::new(own(), Line::new(stands, failing), STILL, NOTHING)
 }
 
-// Comes up.
+// Establishes the session.
 fn rise(rt: &impl AllocGlobal, host: &mut Host<Line, Running, Told>) -> Result<(), AllocError> {
     host.tell(Event::Start);
     host.hear(rt.alloc(), &own_frame(&peer()))?;
     host.hear(rt.alloc(), &head(Kind::Keepalive, 0))
 }
 
-// Comes up, sends a KEEPALIVE, and stops: four sends, where none fails.
+// Establishes the session, sends a KEEPALIVE, and stops: four sends, if none fails.
 fn live(rt: &impl AllocGlobal, host: &mut Host<Line, Running, Told>) -> Result<(), AllocError> {
     rise(rt, host)?;
     host.tell(Event::Expired(Timer::Keepalive));
@@ -51,7 +51,7 @@ fn live(rt: &impl AllocGlobal, host: &mut Host<Line, Running, Told>) -> Result<(
 
 #[test]
 fn nothing_is_sent_behind_a_send_that_failed(rt: HostRuntime) {
-    // Which send fails; how often it was closed, whether routes were flushed, and where the session stands.
+    // Which send fails; how often it was closed, whether routes were flushed, and the state of the session.
     for (failing, closes, flushes, state) in [
         (0, 1, 0, State::Idle),
         (1, 0, 0, State::Idle),
@@ -80,7 +80,7 @@ fn a_lost_open_waits_for_the_retry_timer(rt: HostRuntime) {
                 keepalive: false
             }
     );
-    // The timer expires, and the next connection stands.
+    // The timer expires, and the next connection comes up.
     host.tell(Event::Expired(Timer::Retry));
     assert!(&rt; (host.session().state(), host.connection.sends) == (State::OpenSent, 2));
 }
@@ -113,13 +113,13 @@ fn octets_may_come_one_by_one(rt: HostRuntime) {
     assert!(&rt; host.connection.sends == 2);
 }
 
-// Sends an UPDATE of 2026 routes: whether it was sent.
+// Sends an UPDATE of 2026 routes, and returns whether it was sent.
 fn sends_much(rt: &impl AllocGlobal, host: &mut Host<Line, Running, Told>) -> Result<bool, Fail> {
     let update = repeated(rt.alloc(), 2026)?;
     Ok(host.send(rt.alloc(), &update).is_ok())
 }
 
-// Comes up, and sends it.
+// Establishes the session, and sends it.
 fn live_long(rt: &impl AllocGlobal, host: &mut Host<Line, Running, Told>) -> Result<bool, Fail> {
     rise(rt, host)?;
     sends_much(rt, host)

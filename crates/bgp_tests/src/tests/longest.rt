@@ -6,7 +6,7 @@ use bgp_msg::{Decoder, Kind, Message, Outcome, encode};
 use bgp_prefix::Prefix4;
 use bgp_update::WriteFault;
 
-/// The plain UPDATE with its route so many times.
+/// The plain UPDATE with its route repeated.
 pub(crate) fn repeated(alloc: Global, count: usize) -> Result<Update, Fail> {
     let ten = Prefix4::new(8, [10, 0, 0, 0]).ok_or("a prefix")?;
     let mut update = plain(alloc)?;
@@ -32,7 +32,7 @@ fn an_update_of_2027_routes_is_too_long(rt: HostRuntime) -> Result<(), Fail> {
     Ok(())
 }
 
-/// What is pulled of a piece: how many octets of it are consumed, and how many the message has that is accepted, or none.
+/// The result of a pull: the number of octets of the piece consumed, and the length of the message that is accepted, or none.
 fn pulled(
     decoder: &mut Decoder,
     alloc: Global,

@@ -1,4 +1,4 @@
-//! OPENs and configurations that no row can say: which reason is told first, and the OPENs that aren't written.
+//! OPENs and configurations that no row can express: which reason is reported first, and the OPENs that aren't written.
 
 use bgp_frame::Notification;
 use bgp_open::*;
@@ -50,7 +50,7 @@ fn a_version_is_answered_with_ours(rt: HostRuntime) {
     assert!(rt; OpenFault::Memory.notification().is_none());
 }
 
-/// What comes of writing an OPEN behind an octet, and how many octets there are then.
+/// The result of writing an OPEN after an octet, and the number of octets then.
 fn written(alloc: Global, open: &Open) -> Result<(Result<(), WriteOpenFault>, usize), AllocError> {
     let mut out = vec![in alloc; 7u8]?;
     let answer = write_open(open, &mut out);

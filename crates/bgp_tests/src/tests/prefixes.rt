@@ -47,7 +47,7 @@ fn prefixes_in_order(rt: HostRuntime) -> Result<(), Fail> {
 
 #[test]
 fn runs_of_four_octets(rt: HostRuntime) -> Result<(), Fail> {
-    // Octets, the prefix that they are, and its octets when it is written again.
+    // Octets, the prefix in them, and its octets when it is written again.
     let rows: [(&[u8], u8, [u8; 4], &[u8]); 4] = [
         (&[0x09, 0x0a, 0xff], 9, [10, 128, 0, 0], &[0x09, 0x0a, 0x80]),
         (&[0x00], 0, [0, 0, 0, 0], &[0x00]),

@@ -1,4 +1,4 @@
-//! Values that no reading gives, and why they aren't written (RFC 4271, 5; RFC 7606; RFC 7607; RFC 8092).
+//! Values that no input is read as, and why they aren't written (RFC 4271, 5; RFC 7606; RFC 7607; RFC 8092).
 
 use super::*;
 use bgp_attr::{
@@ -55,7 +55,7 @@ fn routes_need_a_next_hop(rt: HostRuntime) -> Result<(), Fail> {
     assert_not_valid(&rt, true, update, Invalid::Missing)
 }
 
-/// The first of two reasons is told.
+/// The first of two reasons is reported.
 #[test]
 fn a_next_hop_needs_routes(rt: HostRuntime) -> Result<(), Fail> {
     let mut update = plain(rt.alloc())?;
@@ -118,7 +118,7 @@ fn no_large_community_stands_twice(rt: HostRuntime) -> Result<(), Fail> {
     assert_not_valid(&rt, true, update, Invalid::Twice)
 }
 
-/// An attribute of a type that isn't recognised, of so many zeros.
+/// An attribute of a type that isn't recognised, of `len` zeros.
 fn opaque(alloc: Global, kind: u8, count: usize) -> Result<Opaque, AllocError> {
     Ok(Opaque {
         kind,

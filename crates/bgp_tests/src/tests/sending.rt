@@ -1,4 +1,4 @@
-//! What a session doesn't send of values that no reading gives.
+//! What a session doesn't send of values that no input is read as.
 
 use super::*;
 use bgp_frame::head;
@@ -41,7 +41,7 @@ fn assert_unsent(
     Ok(())
 }
 
-/// Of two reasons that with the lower number is told: a mixture of routes and withdrawn routes comes before AS 0.
+/// Of two reasons that with the lower number is reported: a mixture of routes and withdrawn routes comes before AS 0.
 #[test]
 fn a_mixture_is_not_sent(rt: HostRuntime) -> Result<(), Fail> {
     let ten = Prefix4::new(8, [10, 0, 0, 0]).ok_or("a prefix")?;

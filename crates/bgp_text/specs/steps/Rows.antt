@@ -1,4 +1,4 @@
--- A row of which the first value is taken out, the lines of fields by such a row of notes, and octets that are printed piece by piece.
+-- A row whose first value was removed, the lines of fields by such a row of notes, and octets that are printed piece by piece.
 use Rattle.std.specs.Prelude.{◌≡◌, ◌<◌, ℕ, Bool, false, List, [], ◌∷◌, ◌++◌, length, Option, None, Some, if◌then◌else◌}
 use Rattle.bgp_text.specs.Below.{notes_left, Note, Field}
 use Rattle.bgp_text.specs.declared.field_lines.Noting.{Noting}
@@ -12,7 +12,7 @@ abbrev pub row_of : {A : Type 0} → Option A → List A → List A
 row_of None later = []
 row_of (Some first) later = first ∷ later
 
--- the first note of a row, where it is told at a field
+-- the first note of a row, if it is reported at a field
 abbrev pub note_at : Option Note → List ℕ → Field → Option Note
 note_at None message f = None
 note_at (Some n) message f = if is_at message n f then Some n else None
@@ -26,19 +26,19 @@ is_next (Some n) f = is_of n f
 abbrev pub noting_lines : List ℕ → Noting → List Field → List ℕ
 noting_lines message noting fields = noted_lines message noting.place (row_of noting.next (notes_left noting.later)) fields
 
--- what is told of them
+-- what is reported at them
 abbrev pub noting_fields : List ℕ → Noting → List Field → List Told
 noting_fields message noting fields = noted_fields message noting.place (row_of noting.next (notes_left noting.later)) fields
 
--- the notes that none of them has
+-- the notes that are reported at none of them
 abbrev pub noting_left : List ℕ → Noting → List Field → List Note
 noting_left message noting fields = unplaced_notes message (row_of noting.next (notes_left noting.later)) fields
 
--- what is told of a field of a message without notes
+-- what is reported at a field of a message without notes
 abbrev pub plain_field : Field → Told
 plain_field f = record { field = f; marked = is_in 0 f.group; wrong = Wrong.Nothing }
 
--- the line of one
+-- the line of such a field
 abbrev pub plain_line : List ℕ → Field → List ℕ
 plain_line message f = field_line (is_in 0 f.group) message f
 

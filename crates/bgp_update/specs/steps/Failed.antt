@@ -20,7 +20,7 @@ failed_by ctx xs = record {
   twice = list_any stands_twice xs;
 }
 
--- and those that one more fails
+-- and those that one more attribute fails
 abbrev pub also_failed : Failed → Context → Attr → Failed
 also_failed f ctx x = record {
   too_wide = f.too_wide || is_too_wide ctx x;
@@ -31,7 +31,7 @@ also_failed f ctx x = record {
   twice = f.twice || stands_twice x;
 }
 
--- the first reason among them, and the one of attributes of unrecognised types
+-- the first reason among them and the test of attributes of unrecognised types
 abbrev pub first_of : Failed → Bool → Bool → Option Invalid
 first_of f as4 bad_others =
     refused_if f.too_wide invalid.AsWidth (

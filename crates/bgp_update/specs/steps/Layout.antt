@@ -9,7 +9,7 @@ use Rattle.bgp_update.specs.declared.laying.Places.{Places}
 use Rattle.bgp_update.specs.Slots.{attr_list}
 use Rattle.bgp_update.specs.Written.{attributes_octets}
 
--- three parts, of which two stand behind room for their lengths, behind what was there; and where these two fields and the third part begin
+-- after what was there, three parts, two of them after room for their lengths; and where these two fields and the third part begin
 pub record LaysOut (withdrawn attributes nlri : List ℕ) (start : ℕ) (old new : List ℕ) (p : Places) : Type 0 where
   pub whole : new ≡ old ++ (0 ∷ 0 ∷ (withdrawn ++ (0 ∷ 0 ∷ (attributes ++ nlri))))
   pub first : start ≡ length old
@@ -20,7 +20,7 @@ pub record LaysOut (withdrawn attributes nlri : List ℕ) (start : ℕ) (old new
 abbrev pub LaysOutBody : Context → Update → ℕ → List ℕ → List ℕ → Places → Type 0
 LaysOutBody ctx u start old new p = LaysOut (run_octets u.withdrawn) (attributes_octets ctx u.attrs) (run_octets u.nlri) start old new p
 
--- what writing the parts shows of their numbers
+-- what writing the parts proves of the ranges of their numbers
 pub record HasPartRanges (u : Update) : Type 0 where
   pub withdrawn : AllByRecursion (IsValid 4) u.withdrawn
   pub attributes : AllByRecursion HasRanges (attr_list u.attrs)

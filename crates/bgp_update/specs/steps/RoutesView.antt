@@ -1,4 +1,4 @@
--- The routes of a message, where they lie.
+-- The routes of a message, borrowed.
 use Rattle.std.specs.Prelude.{◌++◌}
 use Rattle.bgp_prefix.specs.Prelude.{prefixes_left}
 use Rattle.bgp_update.specs.declared.routes.Routes.{Routes}

@@ -1,4 +1,4 @@
--- Attributes that lie within the octets of a message.
+-- Attributes within the octets of a message.
 use Rattle.std.specs.Prelude.{◌+◌, Bool, nat_le, length}
 use Rattle.bgp_attr.specs.Prelude.{PlacedTlv}
 

@@ -1,6 +1,6 @@
--- What an OPEN at the front of octets tells of its speaker, where there is one.
+-- What the OPEN that octets begin with says of its speaker, where there is one.
 use Rattle.std.specs.Prelude.{◌≡◌, ℕ, List, Result, Ok, Err}
-use Rattle.bgp_frame.specs.declared.step.Step.{Step}
+use Rattle.bgp_frame.specs.Step.{Step}
 use Rattle.bgp_frame.specs.Prelude.{ShowsFront}
 use Rattle.bgp_open.specs.declared.message.Open.{Open}
 use Rattle.bgp_open.specs.Prelude.{said_by, said_of}

@@ -1,8 +1,8 @@
--- One message of a batch, and the rows that stand in a list so far.
+-- One message of a batch, and the rows in a list so far.
 use Rattle.std.specs.Prelude.{◌≡◌, ◌+◌, ◌-◌, ◌<◌, ◌≤◌, ℕ, false, List, [], ◌++◌, length, drop}
 use Rattle.bgp_frame.specs.declared.kind.Kind.{Kind}
-use Rattle.bgp_frame.specs.declared.step.Frame.{Frame}
-use Rattle.bgp_frame.specs.declared.step.Step.{Step}
+use Rattle.bgp_frame.specs.Step.{Frame}
+use Rattle.bgp_frame.specs.Step.{Step}
 use Rattle.bgp_frame.specs.Prelude.{ShowsFront}
 use Rattle.bgp_frame.specs.declared.step.Step.TheVariants as step
 use Rattle.bgp_open.specs.declared.context.Context.{Context}
@@ -18,17 +18,17 @@ pub record IsViewed (body : List ℕ) (o : Outcome) : Type 0 where
   pub outcome : o ≡ out_of ctx (record { kind = kind; body = body })
   pub short : length body ≤ 4077
 
--- these rows stand in a list's first places, so many, and behind them what stood there
+-- these rows are the first `count` elements of a list, and the others are unchanged
 pub record Holds {Row : Type 0} (rows : List Row) (count : ℕ) (list places : List Row) : Type 0 where
   pub stand : list ≡ rows ++ drop count places
   pub counted : length rows ≡ count
   pub room : count ≤ length places
 
--- these rows are written from a place on, up to another, behind whatever stood in front of it
+-- these rows are written from one index up to another, after whatever precedes them
 abbrev pub Adds : {Row : Type 0} → List Row → ℕ → ℕ → List Row → List Row → Type 0
 Adds {Row} rows from to before behind = (first places : List Row) → Holds first from before places → Holds (first ++ rows) to behind places
 
--- a message that is found is taken: so many octets
+-- a message that is found is accepted, with its length
 pub record TakesFrame {Row : Type 0} (gives : Giving Row) (ctx : Context) (at : ℕ) (f : Frame) (len from to : ℕ) (before behind : List Row) : Type 0 where
   pub whole : len ≡ f.len
   pub goes_on : is_reset (outcome_in ctx f) ≡ false
@@ -41,7 +41,7 @@ pub record StopsAtFrame {Row : Type 0} (gives : Giving Row) (ctx : Context) (at 
   pub same : behind ≡ before
   pub ends : EndsAt gives ctx [] at (length before - from) (step.Frame f) status
 
--- the message at an offset is taken
+-- the message at an offset is accepted
 pub record Takes {Row : Type 0} (gives : Giving Row) (ctx : Context) (octets : List ℕ) (at len from to : ℕ) (before behind : List Row) : Type 0 where
   pub rows : List Row
   pub taken : IsTaken gives ctx octets at (record { len = len; rows = rows })
@@ -49,7 +49,7 @@ pub record Takes {Row : Type 0} (gives : Giving Row) (ctx : Context) (octets : L
   pub within : at + len ≤ length octets
   pub adds : Adds rows from to before behind
 
--- what stands there ends the batch
+-- what is at this offset ends the batch
 pub record Stops {Row : Type 0} (gives : Giving Row) (ctx : Context) (octets : List ℕ) (at status from : ℕ) (before behind : List Row) : Type 0 where
   pub same : behind ≡ before
   pub found : Step

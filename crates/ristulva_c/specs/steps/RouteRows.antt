@@ -17,7 +17,7 @@ use Rattle.ristulva_c.specs.declared.route_rows.RouteRow.{RouteRow}
 use Rattle.ristulva_c.specs.Facts.{no_address, paths_told}
 use Rattle.ristulva_c.specs.RouteRows.{prefix_row, withdrawn_row, announced_row}
 
--- the offsets that are told need two octets
+-- the reported offsets fit in two octets
 pub record AreWithin (p : Paths) : Type 0 where
   pub as_path : p.as_path.at + p.as_path.len ≤ 4096
   pub as4_path : p.as4_path.at + p.as4_path.len ≤ 4096

@@ -1,4 +1,4 @@
-//! A box, with its pointer in sight of the handles.
+//! A box, with its pointer visible to the handles.
 
 ghost use Rattle.std.specs.Prelude.{◌≡◌};
 ghost use Rattle.std.specs.Box.Ownership.{box_owns};
@@ -6,11 +6,11 @@ ghost use Rattle.std.specs.Box.Ownership.{box_owns};
 use std::alloc::Allocator;
 use std::marker::Model;
 
-/// What a box is made of.
+/// The parts of a box.
 pub struct BoxParts<T, A: Allocator> {
     pub(crate) ptr: *mut T,
     pub(crate) alloc: A,
-    /// What stands in the box.
+    /// The value in the box.
     pub ghost value: { T },
 }
 

@@ -2,7 +2,7 @@ use Rattle.bgp_fields.proofs.Prelude.{◌≡◌, ◌-◌, ◌++◌, length, true
 use Rattle.bgp_fields.proofs.Prelude.{first_asking}
 use Rattle.bgp_fields.proofs.asking.first_asking.Given as goal
 
--- the first of what is left is the first of all
+-- the first one in what is left is the first of all
 abbrev pub invariant-field : goal.invariant-field
 invariant-field l = record {
   same : first_asking l.resets (marks_behind l.ctx l.has_nlri (has_octet l.seen) (tlvs_left l.tlvs)

@@ -1,7 +1,7 @@
 use Rattle.bgp_fields.proofs.Prelude.{◌≡◌, length, pieces, one_capability}
 use Rattle.bgp_fields.proofs.rests.rest_of_capabilities.Given as goal
 
--- the same is left
+-- what is left has the same rest
 abbrev pub invariant-row : goal.invariant-row
 invariant-row l = (pieces one_capability l.rest).1 ≡ (pieces one_capability l.octets).1
 

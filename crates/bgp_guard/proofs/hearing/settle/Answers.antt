@@ -4,12 +4,14 @@ use Rattle.bgp_guard.proofs.Prelude.{sight_with}
 use Rattle.bgp_frame.specs.Prelude.{Message}
 use Rattle.bgp_guard.proofs.Sights.{over, no_room}
 use Rattle.bgp_guard.proofs.hearing.settle.Goals as goal
+use Rattle.bgp_frame.specs.Kind.{plain}
+use Rattle.bgp_frame.specs.steps.AreTypes.{plain-are}
 
 pub returns-in-Frame-clause-settled : goal.returns-in-Frame-clause-settled
 returns-in-Frame-clause-settled c =
     let s = sight_of c.args.stage.now c.args.this.now c.args.other.now in
     let m = message_in c.in-Frame.frame in
-    let content = content_of-frame m c.args.this.now.framer c.in-Frame.ensures.0 in
+    let content = content_of-frame plain plain-are m c.args.this.now.framer c.in-Frame.ensures.0 in
     record {
       after =
           ap (λ (h : List ℕ). sight_with h c.args.other.now.framer c.take-came.new.stage c.take-came.new.this c.take-came.new.other) c.clear.ensures
@@ -21,14 +23,14 @@ returns-in-Frame-clause-settled c =
     }
 
 pub returns-in-Frame-clause-waits : goal.returns-in-Frame-clause-waits
-returns-in-Frame-clause-waits c = subst Waits (sym c.clear.ensures) nothing_waits
+returns-in-Frame-clause-waits c = subst Waits (sym c.clear.ensures) (nothing_waits plain plain-are)
 
 pub returns-in-Fault-clause-settled : goal.returns-in-Fault-clause-settled
 returns-in-Fault-clause-settled c =
     let s = sight_of c.args.stage.now c.args.this.now c.args.other.now in
     let k = c.args.other.now.framer in
     let shows = c.in-Fault.ensures in
-    let content = content_of-fault c.args.this.now.framer c.in-Fault.fault shows.0 shows.1 in
+    let content = content_of-fault plain plain-are c.args.this.now.framer c.in-Fault.fault shows.0 shows.1 in
     let same = c.view.ensures ∙ c.answer-why.ensures in
     record {
       after =
@@ -42,7 +44,7 @@ returns-in-Fault-clause-settled c =
     }
 
 pub returns-in-Fault-clause-waits : goal.returns-in-Fault-clause-waits
-returns-in-Fault-clause-waits c = subst Waits (sym c.clear-in-Fault.ensures) nothing_waits
+returns-in-Fault-clause-waits c = subst Waits (sym c.clear-in-Fault.ensures) (nothing_waits plain plain-are)
 
 pub returns-in-Fault-clause-room : goal.returns-in-Fault-clause-room
 returns-in-Fault-clause-room c =

@@ -3,6 +3,8 @@ use Rattle.bgp_frame.specs.Prelude.{Message, IsLength}
 use Rattle.bgp_frame.proofs.FrameLemmas.{length-IsFrame}
 use Rattle.bgp_loop.proofs.Wholes.{whole_frame, other_frame, whole_fault, other_fault}
 use Rattle.bgp_loop.proofs.tracer.whole.Goals as goal
+use Rattle.bgp_frame.specs.Kind.{plain}
+use Rattle.bgp_frame.specs.steps.AreTypes.{plain-are}
 
 pub returns-then-frame-octets : goal.returns-then-frame-octets
 returns-then-frame-octets c =
@@ -10,7 +12,7 @@ returns-then-frame-octets c =
     let is = c.in-Frame.ensures.1 in (
       whole_frame m c.args.octets.now c.in-Frame.frame.len c.in-Frame.ensures.0 is c.if-frame-octets.true,
       c.if-frame-octets.true,
-      subst (λ (n : ℕ). IsLength m.kind n) (length-IsFrame m (take c.in-Frame.frame.len c.args.octets.now) is) is.allowed,
+      subst (λ (n : ℕ). IsLength m.kind n) (length-IsFrame plain plain-are m (take c.in-Frame.frame.len c.args.octets.now) is) is.allowed,
     )
 
 pub returns-else-frame-octets : goal.returns-else-frame-octets

@@ -1,4 +1,4 @@
--- What is told is valid as it is told.
+-- What is sent is valid in the form in which it is sent.
 use Rattle.bgp_machine.proofs.Prelude.{◌≡◌, Bool, None, ◌++◌, sym, ap, subst, ◌∙◌, on_ok_weaker, OnOk, Update, invalid_of, HasUpdateRanges, told_with}
 use Rattle.bgp_msg.specs.declared.message.Message.{Message}
 use Rattle.bgp_msg.specs.Prelude.{canonical}

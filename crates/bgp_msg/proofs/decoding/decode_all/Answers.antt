@@ -6,12 +6,14 @@ use Rattle.bgp_frame.proofs.Pulls.{nothing_waits}
 use Rattle.bgp_msg.specs.Prelude.{stream_rules, Decoding, fresh, Decodes}
 use Rattle.bgp_msg.proofs.Decodings.{Outs, decodes_from, octets_in, one_more, ends_early, waits_at_end}
 use Rattle.bgp_msg.proofs.decoding.decode_all.Goals as goal
+use Rattle.bgp_frame.specs.Kind.{plain}
+use Rattle.bgp_frame.specs.steps.AreTypes.{plain-are}
 
 pub pieces-init : goal.pieces-init
 pieces-init c =
     let ctx = c.args.ctx.now in
     subst (λ (d : Decoding). Decodes (fresh ctx) [] [] c.new-outs.result.items [] None d) (sym c.new-decoder.ensures)
-    (subst (λ (os : Outs). Decodes (fresh ctx) [] [] os [] None (fresh ctx)) (sym c.new-outs.ensures.items) (decodes_from (fresh ctx) [] [] refl nothing_waits))
+    (subst (λ (os : Outs). Decodes (fresh ctx) [] [] os [] None (fresh ctx)) (sym c.new-outs.ensures.items) (decodes_from (fresh ctx) [] [] refl (nothing_waits plain plain-are)))
 
 pub returns-in-Some : goal.returns-in-Some
 returns-in-Some c =

@@ -2,7 +2,7 @@ use Rattle.std.proofs.Common.{◌≡◌, ◌++◌, length}
 use Rattle.bgp_prefix.specs.Prelude.{run_of}
 use Rattle.bgp_prefix.proofs.run.read_run.Given as goal
 
--- the prefixes so far and those of what is left are all the prefixes, and the same is left behind them
+-- the prefixes so far and those of what is left are all the prefixes, and the same rest follows
 abbrev pub invariant-run : goal.invariant-run
 invariant-run g l = record {
   prefixes : l.prefixes ++ (run_of g.row.W l.rest).0 ≡ (run_of g.row.W l.octets).0;

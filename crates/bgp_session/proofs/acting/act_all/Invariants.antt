@@ -1,7 +1,7 @@
 use Rattle.bgp_session.proofs.Prelude.{◌≡◌, pair, all_acted}
 use Rattle.bgp_session.proofs.acting.act_all.Given as goal
 
--- what is left to be done is done on what the actions so far made
+-- the remaining actions are done on the result of those so far
 abbrev pub invariant-actions : goal.invariant-actions
 invariant-actions l =
     all_acted l.fn.side (pair l.initial.this l.initial.other l.initial.notes) l.fn.actions.items

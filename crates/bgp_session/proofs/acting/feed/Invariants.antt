@@ -1,7 +1,7 @@
 use Rattle.bgp_session.proofs.Prelude.{◌≡◌, IsReady, weight, fed_on, left_seen, pair, fed, observed, octets_seen}
 use Rattle.bgp_session.proofs.acting.feed.Given as goal
 
--- what the piece does is what its rest does on what was made so far
+-- what the piece does is what its rest does on the result so far
 abbrev pub invariant-piece : goal.invariant-piece
 invariant-piece g l =
     IsReady l.this.session

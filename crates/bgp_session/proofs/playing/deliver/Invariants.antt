@@ -1,7 +1,7 @@
 use Rattle.bgp_session.proofs.Prelude.{◌≡◌, length, Rests, Delivers, delivers, trace}
 use Rattle.bgp_session.proofs.playing.deliver.Given as goal
 
--- the pieces so far have passed, and the others are left
+-- the pieces so far were passed, and the others remain
 abbrev pub invariant-pieces : goal.invariant-pieces
 invariant-pieces g l =
     Rests l.pairing

@@ -3,7 +3,7 @@ use Rattle.bgp_open.specs.Prelude.{capabilities_left, open_value, said_by, said_
 use Rattle.bgp_terms.specs.Prelude.{offered_by, offered_in, offering_more}
 use Rattle.bgp_terms.proofs.offers.offers_in.Given as goal
 
--- the speaker is kept; with what is left, all is offered
+-- the speaker's own parameters don't change; with what is left, all is collected
 abbrev pub invariant-loop-capability : goal.invariant-loop-capability
 invariant-loop-capability l =
     (said_of l.offers.peer ≡ said_by (open_value l.view))

@@ -1,7 +1,7 @@
 use Rattle.bgp_text.proofs.Prelude.{◌≡◌, ◌++◌, length, flat_map, string_bytes, behind_comma}
 use Rattle.bgp_text.proofs.json_list.put_further.Given as goal
 
--- the text so far, and that of the values still to come, are all
+-- the text so far, and that of the values left, are all
 abbrev pub invariant-row : goal.invariant-row
 invariant-row g l =
     string_bytes l.text ++ flat_map (behind_comma g.T.Element.json) (g.S.Source.left l.left)

@@ -1,7 +1,7 @@
 use Rattle.bgp_text.proofs.Prelude.{◌≡◌, ◌++◌, length, flat_map, string_bytes}
 use Rattle.bgp_text.proofs.short.put_row.Given as goal
 
--- the text so far, and that of the values still to come, are all
+-- the text so far, and that of the values left, are all
 abbrev pub invariant-row : goal.invariant-row
 invariant-row g l =
     string_bytes l.text ++ flat_map g.T.Short.text (g.S.Source.left l.left)

@@ -2,7 +2,7 @@ use Rattle.std.proofs.Common.{arith}
 use Rattle.std.proofs.lemmas.Grind.{common_steps}
 use Rattle.bgp_update.proofs.body_writing.put_parts.Goals as goal
 
--- what `search` would first try in vain
+-- given here, since `search` would first try other ways in vain
 pub returns-clause-ok : goal.returns-clause-ok
 returns-clause-ok g c = grind (arith, common_steps)
 

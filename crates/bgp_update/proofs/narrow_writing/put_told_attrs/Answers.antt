@@ -20,7 +20,7 @@ returns-in_err-put_slot-clause-err c =
     let p = err_from_is_err_and c.from_residual.result c.from_residual.ensures.1 in
     rw p.1 (written_more (canonical c.args.ctx.now) (λ a. Unit {0}) (so_far (slot told) c.told_types-kinds.result.now c.types.kind-index) c.args.out.now.items c.types.out.items c.put_slot.new.out.items c.types.invariant c.in_err-put_slot.ensures.err)
 
--- nothing is asked of each
+-- no condition on the attributes
 each : (xs : List Attr) → AllByRecursion (λ (a : Attr). Unit {0}) xs
 each [] = tt
 each (x ∷ xs) = (tt, each xs)

@@ -2,7 +2,7 @@ use Rattle.std.proofs.Common.{◌≡◌, ◌++◌, length, map}
 use Rattle.bgp_attr.specs.Prelude.{opaque_value}
 use Rattle.bgp_update.proofs.others.own_others.Given as goal
 
--- those so far, and those still to come, are all
+-- those so far, and those left, are all
 abbrev pub invariant-row : goal.invariant-row
 invariant-row l = l.owned ++ map opaque_value l.left ≡ map opaque_value l.others
 

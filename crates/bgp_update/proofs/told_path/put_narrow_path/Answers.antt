@@ -5,7 +5,7 @@ use Rattle.bgp_wire.proofs.Rooms.{extends_more}
 use Rattle.bgp_update.proofs.ToldPaths.{extends_by}
 use Rattle.bgp_update.proofs.told_path.put_narrow_path.Goals as goal
 
--- what `search` would first try in vain
+-- given here, since `search` would first try other ways in vain
 pub returns-clause-ok : goal.returns-clause-ok
 returns-clause-ok c = grind (arith, common_steps)
 

@@ -2,7 +2,7 @@ use Rattle.std.proofs.Common.{arith}
 use Rattle.std.proofs.lemmas.Grind.{common_steps}
 use Rattle.bgp_update.proofs.view_narrowing.put_parts.Goals as goal
 
--- what `search` would first try in vain
+-- given here, since `search` would first try other ways in vain
 pub returns-in_err-put_room-clause-err : goal.returns-in_err-put_room-clause-err
 returns-in_err-put_room-clause-err c = grind (arith, common_steps)
 

@@ -8,7 +8,7 @@ use Rattle.bgp_update.specs.KeptView.{known_of, known_value}
 use Rattle.bgp_update.specs.Prelude.{narrowed, attr_list, attributes_octets, update_value, told_attrs}
 use Rattle.bgp_update.proofs.view_narrowing.put_told.Goals as goal
 
--- what is told is what the attributes say
+-- what is sent is what the attributes say
 same : (kept : KeptView) (others row : List OpaqueView) (a : Attrs) → known_value kept ≡ known_of a → others ≡ row → map opaque_value row ≡ a.others → told_attrs kept others ≡ narrowed a
 same kept others row a known e found = ap₂ (λ (k : Attrs) (os : List Opaque). narrowed (record k { others = os })) known (ap (λ (os : List OpaqueView). map opaque_value os) e ∙ found)
 

@@ -2,7 +2,7 @@ use Rattle.std.proofs.Common.{arith}
 use Rattle.std.proofs.lemmas.Grind.{common_steps}
 use Rattle.bgp_update.proofs.withdrawal.put_gone.Goals as goal
 
--- what `search` would first try in vain
+-- given here, since `search` would first try other ways in vain
 pub returns-in_err-begin_attr-clause-err : goal.returns-in_err-begin_attr-clause-err
 returns-in_err-begin_attr-clause-err g c = grind (arith, common_steps)
 

@@ -2,7 +2,7 @@ use Rattle.ristulva_c.proofs.Below.{◌≡◌, ◌+◌, length, filter, has_octe
 use Rattle.ristulva_c.specs.Prelude.{is_left_out}
 use Rattle.ristulva_c.proofs.left_out.others_left_out.Given as goal
 
--- those so far, and those still to come, are all
+-- those so far and those that remain are all
 abbrev pub invariant-kept : goal.invariant-kept
 invariant-kept l = l.count + length (filter (is_left_out (has_octet l.drops)) (attrs_left l.left)) ≡ length (filter (is_left_out (has_octet l.drops)) (kept_of (view_marks l.view)))
 

@@ -2,7 +2,7 @@ use Rattle.ristulva_c.proofs.Below.{◌≡◌, length, joined_value, joined_left
 use Rattle.ristulva_c.specs.Prelude.{origin_in, origin_behind}
 use Rattle.ristulva_c.proofs.origin_as.origin_in.Given as goal
 
--- what the segments still to come end in, or else those so far, is what all end in
+-- what the remaining segments end in, or else those so far, is what all end in
 abbrev pub invariant-path : goal.invariant-path
 invariant-path l = origin_behind l.last (joined_left l.left) ≡ origin_in (joined_value l.path).segments
 

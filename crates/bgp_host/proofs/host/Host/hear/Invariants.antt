@@ -1,7 +1,7 @@
 use Rattle.bgp_host.proofs.Prelude.{List, Cause, hosted, Runs, ArePulls, weight}
 use Rattle.bgp_host.proofs.host.Host.hear.Given as goal
 
--- the octets so far were heard
+-- the octets so far were received
 abbrev pub invariant-piece : goal.invariant-piece
 invariant-piece g l =
     (causes : List Cause)

@@ -4,7 +4,7 @@ use Rattle.bgp_attr.specs.declared.attr.Attr.TheVariants as attr
 use Rattle.bgp_update.specs.Prelude.{Mark, cut, cut_kind, cut_mark, summary_behind, SummaryValue, summary_value}
 use Rattle.bgp_update.proofs.summary.Summary.add_tail.Goals as goal
 
--- a cut attribute has a mark
+-- an attribute that is cut off has a mark
 some-cut : (s t : SummaryValue) (at : ℕ) (rest : List ℕ) → 0 < length rest → ((m : Mark) → m.judged ≡ cut rest → t ≡ summary_behind s (m ∷ [])) → t ≡ summary_behind s (cut_mark at rest)
 some-cut s t at [] some adds = absurd (omega (arith, some))
 some-cut s t at (flags ∷ rest) some adds = adds (record { at = at; kind = cut_kind (flags ∷ rest); judged = cut (flags ∷ rest) }) refl

@@ -5,7 +5,7 @@ use Rattle.bgp_attr.specs.Prelude.{tlvs_left}
 use Rattle.bgp_update.specs.Prelude.{field_marks, is_small, types_of_field, AreOf, marks_ahead, seen_by, summary_value, summary_behind, summary_of}
 use Rattle.bgp_update.proofs.summary.Summary.sum_up.Given as goal
 
--- those so far and those still to come are all, and so are their types; and what is kept is of the field that is walked
+-- those so far and those left are all, and so are their types; and what is kept is of this field
 abbrev pub invariant-field : goal.invariant-field
 invariant-field l =
     (summary_behind (summary_value l.self) (marks_ahead l.ctx l.has_nlri l.field (seen_by l.self.kept l.others) l.tlvs) ≡ summary_of (field_marks l.ctx l.has_nlri l.field))

@@ -1,4 +1,4 @@
--- A trace is made with no octets: nothing ties its ghost value to memory.
+-- A trace made with no octets: nothing ties its ghost value to memory.
 use Rattle.std.proofs.Common.{[], ◌∷◌, refl}
 use mir.Val.{vstruct, vnil}
 use base.Logic.{emp, via, fst∗}

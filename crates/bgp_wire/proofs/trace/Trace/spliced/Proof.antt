@@ -1,4 +1,4 @@
--- A trace is made with other octets: nothing ties its ghost value to memory.
+-- A trace made with other octets: nothing ties its ghost value to memory.
 use Rattle.std.proofs.Common.{[], ◌∷◌, ◌++◌, take, drop, length, w64, refl}
 use mir.Syntax.{named}
 use mir.Val.{Val, vptr, vint, vstruct, vnil}

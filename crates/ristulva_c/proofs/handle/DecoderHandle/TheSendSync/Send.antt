@@ -1,4 +1,4 @@
--- What a handle owns says the same to every thread.
+-- What a handle owns is the same for every thread.
 use denote.Param.Send.{IsSend}
 use Rattle.bgp_msg.specs.contracts.decoder.Decoder.{the_row as Body}
 use Rattle.bgp_msg.proofs.decoder.Decoder.TheSendSync.{the_send}

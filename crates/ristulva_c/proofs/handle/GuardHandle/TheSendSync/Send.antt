@@ -1,4 +1,4 @@
--- What a handle owns says the same to every thread.
+-- What a handle owns is the same for every thread.
 use denote.Param.Send.{IsSend}
 use Rattle.bgp_guard.specs.contracts.guard.Guard.{the_row as Body}
 use Rattle.bgp_guard.proofs.guard.Guard.TheSendSync.{the_send}

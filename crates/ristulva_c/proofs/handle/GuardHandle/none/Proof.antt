@@ -1,4 +1,4 @@
--- `none` is the null pointer, behind which there is nothing.
+-- `none` is the null pointer, which points to nothing.
 use Rattle.ristulva_c.proofs.Walks.{[], ◌∷◌, refl, lit<, emp, Ptr, null_ptr, nothing, on_entry, Stays, walk_of, says, ends_at, raw, ◌$◌, ◌∵◌, !, qed, drop, feq_i, suffices, group, done, enter, lit, no_more, and_then, returns, alloc_all, pass_all, free_all, look_at, sets, agg, None, proved}
 use Rattle.bgp_guard.specs.contracts.guard.Guard.{the_row as Body}
 use Rattle.ristulva_c.proofs.Handles.{word_of, handle_in}

@@ -1,4 +1,4 @@
--- What a handle owns says the same to every thread.
+-- What a handle owns is the same for every thread.
 use denote.Param.Send.{IsSend}
 use Rattle.bgp_machine.specs.contracts.session.Session.{the_row as Body}
 use Rattle.bgp_machine.proofs.session.Session.TheSendSync.{the_send}

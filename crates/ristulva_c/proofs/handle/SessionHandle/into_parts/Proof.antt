@@ -1,4 +1,4 @@
--- `into_parts` tests the pointer, and hands on what the handle owns.
+-- `into_parts` tests the pointer, and moves out what the handle owns.
 use Rattle.ristulva_c.proofs.Walks.{[], ◌∷◌, refl, id⊢, WpFn, Tables, tables, tables_of, WpFn-mono, ‵, ◌$◌, ◌∵◌, !, qed, join, fjoin, suffices, done, yes, nothing, triple_of, entered, says, Stays, stay_dropped, walk_of, ends_at, Goes-dropped, walk_Meets, plain, Slot}
 use Rattle.bgp_machine.specs.contracts.session.Session.{the_row as Body}
 use Rattle.bgp_machine.proofs.session.Session.TheLaws.{the_row_laws}

@@ -1,4 +1,4 @@
--- `into_box` hands what the parts own to `from_raw`.
+-- `into_box` passes what the parts own to `from_raw`.
 use Rattle.ristulva_c.proofs.Walks.{◌≡◌, refl, sym, subst, ap, List, [], ◌∷◌, ◌++◌, T, Ura, Fn, Body, place, copy, assign, rv_opd, seq, return, inst_fn, Val, vptr, has_ty, WT, SProp, ent, id⊢, ftrue, fsep, flft, ◌⊑◌, Memory, Routine, WpFn, Tables, Logic, Fun, fact, tables, tables_of, fm_of, WpFn-mono, Item, at_ret, ‵, raw, ◌⊛◌, some, later, ◌$◌, ◌∵◌, !, qed, by, move, drop, use1, join, split, split3, pick, rewrite, fsplit, fjoin, feq_i, suffices, await, done, whole, sub, stop, fld, no_more, and_then, of_opd, returns, enter, first, blocks, exec, alloc_all, pass_all, free_all, look_at, get, get_in, sets, lands_last, env, RattleType, no, block_ptr, plain, heard, nothing, only, calls_at_last, Ended, Clauses, triple_of, Triple, Contract, entered, says, Stays, stay_dropped, walk_of, ends_at, walk_Meets, token, Goes-blank, box_owns, Bx, D, R, P, B, args, box_ty, word, box_typed, box_out, box_in}
 use Rattle.ristulva_c.specs.contracts.handle.parts.BoxParts as parts
 use Rattle.std_alloc.specs.contracts.boxed.Box.from_raw as Fr

@@ -1,0 +1,4 @@
+-- ROUTE-REFRESH.
+pub mod Refresh
+pub mod Fault
+pub mod Prelude
