@@ -168,6 +168,8 @@ over_the_programs() { # the program, the one of rows, a flag for one that is not
     have cc gcc
     part "commands" checks/examples/check-commands "$1"
     part "limits" checks/examples/check-limits "$1" $3
+    part_in_python "vectors" checks/vectors/check "$1"
+    part_in_python "vectors that are altered" checks/vectors/check --self-test
     part_in_python "objects" checks/examples/check-json "$1"
     part_in_python "explained examples" checks/examples/check-explain "$1"
     part "rows" rows "$2" "$3"

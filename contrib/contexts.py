@@ -4,7 +4,7 @@ import struct
 
 import streams
 
-MULTIPROTOCOL, NEXT_HOPS, EXTENDED, FOUR_OCTETS, ADD_PATH = 1, 5, 6, 65, 69
+MULTIPROTOCOL, REFRESH, NEXT_HOPS, EXTENDED, FOUR_OCTETS, ADD_PATH, ENHANCED_REFRESH = 1, 2, 5, 6, 65, 69, 70
 IP4_UNICAST, IP6_UNICAST = b"\0\1\1", b"\0\2\1"
 MP_REACH, MP_UNREACH = 14, 15
 LONGEST = 4096
@@ -61,9 +61,17 @@ def agreed(one, other):
     return Context(**may, internal=False, guessed=frozenset([name for name, is_open in may.items() if is_open] + ["internal"]))
 
 
-def flags_of(context):
-    """The flags of a context."""
-    return streams.flags_of(context.wide, context.ip4, context.ip6, context.internal)
+def refresh_flag(sender, receiver):
+    """The flag by which ROUTE-REFRESHes of the first one are read: none where the second doesn't offer to receive them (RFC 2918, section 4), or an OPEN
+    is missing. Both capabilities have no value."""
+    if sender is None or receiver is None or (REFRESH, b"") not in receiver.capabilities:
+        return ""
+    return "--enhanced-refresh" if all((ENHANCED_REFRESH, b"") in said.capabilities for said in (sender, receiver)) else "--refresh"
+
+
+def flags_of(context, refresh=""):
+    """The flags of a context, and that of a direction's ROUTE-REFRESHes."""
+    return f"{streams.flags_of(context.wide, context.ip4, context.ip6, context.internal)} {refresh}".strip()
 
 
 def faults(objects):
@@ -169,8 +177,9 @@ def has_other_next_hop(update):
 
 
 def unread(message, sender, receiver):
-    """What a message is that `bgp` would take for a fault though both agreed on it, or may have: none where it isn't one."""
-    if message.kind == streams.ROUTE_REFRESH:
+    """What a message is that `bgp` would take for a fault though both agreed on it, or may have: none where it isn't one. A ROUTE-REFRESH is passed over
+    wherever it isn't known to be agreed on."""
+    if message.kind == streams.ROUTE_REFRESH and not refresh_flag(sender, receiver):
         return "of type 5 (ROUTE-REFRESH)"
     if len(message.octets) > LONGEST and may_agree(sender, receiver, EXTENDED, 0):
         return "above 4096 octets"

@@ -135,8 +135,21 @@ def answered():
     scene("no Marker", "19 octets of zero, 1/1", pcap(it.packets),
           [f"for {A}'s message of type 0 at octet {AFTER}; it is the last that bgp answers or notes", "bgp's verdict is the same"])
     it = up().say("A", message(5, b"\0\1\0\1")).say("B", notification(1, 3, b"\5"))
-    scene("ROUTE-REFRESH, not understood", "a ROUTE-REFRESH, 1/3 with its type", pcap(it.packets),
-          [f"for {A}'s ROUTE-REFRESH at octet {AFTER}; its data are the Type at octet {AFTER + 18}"])
+    scene("ROUTE-REFRESH, not understood", "a ROUTE-REFRESH, which both offer, 1/3 with its type", pcap(it.packets),
+          [f"for {A}'s ROUTE-REFRESH at octet {AFTER}; its data are the Type at octet {AFTER + 18}", "it is accepted by bgp: theirs 1/3, ours none",
+           f"{A} sent OPEN 1, KEEPALIVE 1, UPDATE 6, ROUTE-REFRESH 1"], never="passed over|isn't judged")
+    it, after = opened("0200", "")
+    scene("ROUTE-REFRESH, not offered", "a ROUTE-REFRESH, which the other end doesn't offer, 1/3 with its type",
+          pcap(it.say("A", message(5, b"\0\1\0\1")).say("B", notification(1, 3, b"\5")).packets),
+          [f"for {A}'s ROUTE-REFRESH at octet {after}; its data are the Type at octet {after + 18}", "it isn't judged here: of type 5 (ROUTE-REFRESH)",
+           f"{A} sent OPEN 1, KEEPALIVE 1, ROUTE-REFRESH 1 (passed over)"])
+    it = up().say("A", message(5, b"\0\1\0")).say("B", notification(1, 2, b"\0\x16"))
+    scene("ROUTE-REFRESH, cut off", "a ROUTE-REFRESH without a SAFI, 1/2 with its Length", pcap(it.packets),
+          [f"for {A}'s ROUTE-REFRESH at octet {AFTER}; its data are the Length at octet {AFTER + 16}", "bgp's verdict is the same"])
+    it, after = opened("0200 4600", "0200 4600")
+    borr = message(5, b"\0\1\1\1\0")
+    scene("enhanced refresh", "a BoRR of 5 octets, a KEEPALIVE, 7/1 with the BoRR", pcap(it.say("A", borr, keepalive()).say("B", notification(7, 1, borr)).packets),
+          [f"for {A}'s ROUTE-REFRESH at octet {after}; its data are the message at octet {after}", "bgp's verdict is the same"])
     it = Connection().open().say("A", message(OPEN, bytes.fromhex("03fdec005ac000020100"))).say("B", notification(2, 1, b"\0\4")).end("B")
     scene("an OPEN of version 3", "it is answered by 2/1", pcap(it.packets),
           [f"for {A}'s OPEN at octet 0; it is the last that bgp answers or notes",

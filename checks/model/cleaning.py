@@ -102,7 +102,7 @@ def withdrawal(context, routes):
 
 
 def cleaned(context, drops, is_first, octets, refuses=nothing):
-    """The octets of what is passed on of a message, or None and why."""
+    """The octets of what is passed on of a message, none of a ROUTE-REFRESH, or None and why."""
     name, *parts = outcome(context, octets[18], octets[19:])
     if name == "reset":
         return None, f"reset {parts[0]}/{parts[1]}"
@@ -112,12 +112,15 @@ def cleaned(context, drops, is_first, octets, refuses=nothing):
         return withdrawal(context, parts[0]), None
     if name == "take":
         return cleaned_update(context, drops, refuses, octets[19:], *parts[:3]), None
+    if name == "refresh":
+        # The OPEN that is passed on doesn't offer it.
+        return b"", None
     return octets, None
 
 
 def cleaned_stream(context, drops, octets):
     """What is written, and the offset and the reason where it ends before the stream does, or None."""
-    found, rest, fault = frames(octets)
+    found, rest, fault = frames(octets, context.refresh)
     written = b""
     for at, one in found:
         more, why = cleaned(context, drops, at == 0, one)

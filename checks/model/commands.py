@@ -1,8 +1,12 @@
 """What the commands of bgp print: each gives what is written, what is printed on standard error, and the status."""
+import dataclasses
+
 from cleaning import cleaned_stream
 from wire import *
 
-NAMES = {OPEN: "OPEN", UPDATE: "UPDATE", NOTIFICATION: "NOTIFICATION", KEEPALIVE: "KEEPALIVE"}
+NAMES = {OPEN: "OPEN", UPDATE: "UPDATE", NOTIFICATION: "NOTIFICATION", KEEPALIVE: "KEEPALIVE", ROUTE_REFRESH: "ROUTE-REFRESH"}
+SUBTYPES = {REQUEST: "request", BEGIN: "begin", END: "end"}
+ROUTE_REFRESH_OFFER, ENHANCED_OFFER, PATHS_OFFER = 2, 70, 69
 DIGITS = b"0123456789abcdefABCDEF"
 
 
@@ -85,7 +89,11 @@ def outcome_lines(at, octets, answer):
         return [f"{at} 0 HEADER reset {parts[0]}/{parts[1]} {info(parts[2])}"]
     first = f"{at} {len(octets)} {NAMES[octets[18]]}"
     if name == "reset":
+        # A ROUTE-REFRESH that is too short to be one is a fault of its header.
+        first = f"{at} {len(octets)} HEADER" if parts[0] == 1 else first
         return [f"{first} reset {parts[0]}/{parts[1]} {info(parts[2])}"]
+    if name == "refresh":
+        return [f"{first} {SUBTYPES.get(parts[2], f'ignored {parts[2]}')} {parts[0]} {parts[1]}"]
     if name == "told":
         return [f"{first} {parts[0]}/{parts[1]} {info(parts[2])}"]
     if name == "open":
@@ -154,8 +162,12 @@ def check(context, given, is_hex=False):
     return report(context, given, is_hex, lines_of)
 
 
-def to_hex(given):
-    found, rest, fault = frames(given)
+def to_hex(given, has_refresh=False):
+    found, rest, fault = frames(given, has_refresh)
+    # The least Length of a ROUTE-REFRESH is 23 (RFC 2918, section 3): one below ends the lines as such a header of another type does.
+    short = next((n for n, (_, octets) in enumerate(found) if octets[18] == 5 and len(octets) < 23), None)
+    if short is not None:
+        return text([octets.hex() for _, octets in found[:short]] + [f"fault 1/2 {found[short][1][16:18].hex()}"]), b"", 1
     lines = [octets.hex() for _, octets in found]
     if fault:
         lines.append(f"fault {fault[1]}/{fault[2]} {info(fault[3])}")
@@ -172,7 +184,7 @@ def from_hex(given):
 def narrow(context, given):
     """The context has AS numbers of four octets."""
     outcomes, end = seen(context, given)
-    target, written = Context(context.internal, False, context.ip4, context.ip6), b""
+    target, written = dataclasses.replace(context, as4=False), b""
     for at, octets, (name, *parts) in outcomes:
         if name == "take":
             octets = write_update(target, parts[0], narrowed(parts[1]), parts[2])
@@ -198,16 +210,25 @@ def first_open(octets):
     return answer[1:] if answer[0] == "open" else None
 
 
-def agreed(ours, theirs):
-    """The context that two speakers of these OPENs agree on, or None where one is lacking."""
-    if ours is None or theirs is None:
+def agreed(sender, reader):
+    """The context that two speakers of these OPENs agree on for what the first one sends, or None where one is lacking."""
+    if sender is None or reader is None:
         return None
-    wide = [[it[1] for it in said[3] if it[0] == "as4"] for said in (ours, theirs)]
-    numbers = [(its or [said[0]])[0] for its, said in zip(wide, (ours, theirs))]
-    families = [all(("multi", afi, 1) in said[3] for said in (ours, theirs)) for afi in (1, 2)]
+    both = (sender, reader)
+    wide = [[it[1] for it in said[3] if it[0] == "as4"] for said in both]
+    numbers = [(its or [said[0]])[0] for its, said in zip(wide, both)]
+    families = [all(("multi", afi, 1) in said[3] for said in both) for afi in (1, 2)]
     # A speaker without the capability sees My Autonomous System, where AS_TRANS isn't a number of its own (RFC 6793, section 4.1).
-    seen_alike = ours[0] == theirs[0] and (ours[0] != AS_TRANS or numbers[0] == numbers[1])
-    return Context(numbers[0] == numbers[1] if all(wide) else seen_alike, all(wide), *families)
+    seen_alike = sender[0] == reader[0] and (sender[0] != AS_TRANS or numbers[0] == numbers[1])
+    # Who offers ROUTE-REFRESH is willing to receive it (RFC 2918, section 4). Both capabilities have no value: one that has some isn't understood.
+    refresh = offers(reader, ROUTE_REFRESH_OFFER)
+    enhanced = refresh and all(offers(said, ENHANCED_OFFER) for said in both)
+    return Context(numbers[0] == numbers[1] if all(wide) else seen_alike, all(wide), *families, refresh=refresh, enhanced=enhanced)
+
+
+def offers(said, code):
+    """Whether an OPEN has this capability, without a value."""
+    return ("other", code, b"") in said[3]
 
 
 def path_roles(said, afi):
@@ -215,7 +236,7 @@ def path_roles(said, afi):
     roles = set()
     for code, value in [it[1:] for it in said[3] if it[0] == "other"]:
         rows = [value[at : at + 4] for at in range(0, len(value), 4)]
-        if code == 69 and all(len(row) == 4 and 1 <= row[3] <= 3 for row in rows):
+        if code == PATHS_OFFER and all(len(row) == 4 and 1 <= row[3] <= 3 for row in rows):
             roles |= {row[3] for row in rows if (number(row[:2]), row[2]) == (afi, 1)}
     return roles
 

@@ -105,10 +105,17 @@ def some_open():
     return bytes([4 if not rarely(30) else 3]) + fields + bytes([size]) + parameters
 
 
+def some_refresh():
+    """The body of a ROUTE-REFRESH, rarely too short, or longer than it has to be."""
+    body = spelled(2, chance.choice([1, 1, 2, 25])) + bytes([chance.choice([REQUEST, REQUEST, BEGIN, END, 3, 255]), chance.choice([1, 1, 2, 128])])
+    return chance.choice([body[: chance.randrange(4)], body[:3], body + octets(chance.choice([1, 9, 4073]))]) if rarely(6) else body
+
+
 def some_message(context):
-    kind = chance.choice([UPDATE] * 7 + [OPEN, NOTIFICATION, KEEPALIVE])
+    kind = chance.choice(([UPDATE] * 7 + [OPEN, NOTIFICATION, KEEPALIVE]) * 6 + [ROUTE_REFRESH] * (12 if context.refresh else 1))
     size = chance.choice([2, 3, 30]) if not rarely(10) else 4077
-    found = bytearray(message(kind, {UPDATE: some_update(context), OPEN: some_open(), NOTIFICATION: octets(size), KEEPALIVE: b""}[kind]))
+    bodies = {UPDATE: some_update(context), OPEN: some_open(), NOTIFICATION: octets(size), KEEPALIVE: b"", ROUTE_REFRESH: some_refresh()}
+    found = bytearray(message(kind, bodies[kind]))
     if rarely(15):
         found[chance.randrange(len(found))] = chance.randrange(256)
     return bytes(found[: chance.randrange(len(found))] if rarely(40) else found)
@@ -121,12 +128,17 @@ def clean_body(internal):
     return next((it for it in tries if (found := verdict(context, it))[0] == "take" and not found[4]), bytes(4))
 
 
+def clean_message(context):
+    """A message that `narrow` rewrites or copies."""
+    return message(ROUTE_REFRESH, some_refresh()) if context.refresh and rarely(6) else message(UPDATE, clean_body(context.internal))
+
+
 def taken_open():
     """The body of an OPEN that is accepted, mostly with the capabilities that decide what is agreed on."""
     number = chance.choice([65001, 65001, 65002, 200000])
-    offered = [b"\1\4\0\1" + octets(1) + b"\1", b"\1\4\0\2\0\1", b"\x41\4" + spelled(4, number), b"\x41\4" + octets(4), b"\1\4\0\1\0\x80", b"\2\0",
-               b"\x45\4\0" + bytes([chance.choice([1, 2]), 1, chance.choice([1, 2, 3, 3, 4])])]
-    capabilities = [it for at, it in enumerate(offered) if rarely(5) == (at > 2)]
+    offered = [b"\1\4\0\1" + octets(1) + b"\1", b"\1\4\0\2\0\1", b"\x41\4" + spelled(4, number), b"\2\0", b"\x46\0", b"\x41\4" + octets(4),
+               b"\1\4\0\1\0\x80", b"\2\1\0", b"\x46\1\0", b"\x45\4\0" + bytes([chance.choice([1, 2]), 1, chance.choice([1, 2, 3, 3, 4])])]
+    capabilities = [it for at, it in enumerate(offered) if rarely(5) == (at > 4)]
     if rarely(2):
         chance.shuffle(capabilities)
     inside = capabilities if rarely(2) else [b"".join(capabilities)]

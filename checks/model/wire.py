@@ -1,13 +1,18 @@
 """BGP-4 messages: the outcome of their octets, and how they are written. A model, for comparison: no speed, no streams in pieces.
 
-Written from the rules that docs/made/ATTRIBUTES.md, docs/made/DEFINITIONS.md and docs/DECISIONS.md state, and not from the crates.
+Written from the rules that docs/made/ATTRIBUTES.md, docs/made/DEFINITIONS.md and docs/DECISIONS.md state, a ROUTE-REFRESH from RFC 2918 and RFC 7313, and
+not from the crates.
 """
 from dataclasses import dataclass
 
 MARKER = b"\xff" * 16
 AS_TRANS = 23456
-OPEN, UPDATE, NOTIFICATION, KEEPALIVE = 1, 2, 3, 4
+OPEN, UPDATE, NOTIFICATION, KEEPALIVE, ROUTE_REFRESH = 1, 2, 3, 4, 5
 LEAST = {OPEN: 29, UPDATE: 23, NOTIFICATION: 21, KEEPALIVE: 19}
+# Subtypes of a ROUTE-REFRESH (RFC 7313, section 3.2): a request, and where a refresh begins (BoRR) and ends (EoRR).
+REQUEST, BEGIN, END = 0, 1, 2
+# The longest data of a NOTIFICATION of 4096 octets.
+MOST_DATA = 4075
 ORIGIN, AS_PATH, NEXT_HOP, MED, LOCAL_PREF, ATOMIC, AGGREGATOR, COMMUNITIES = range(1, 9)
 MP_REACH, MP_UNREACH, AS4_PATH, AS4_AGGREGATOR, LARGE = 14, 15, 17, 18, 32
 # Of each recognised type: whether it is optional, and whether it is transitive.
@@ -32,6 +37,9 @@ class Context:
     ip4: bool = False
     ip6: bool = False
     hold: int = 0
+    # Whether the receiver offers ROUTE-REFRESH (RFC 2918), and whether both offer where a refresh begins and ends (RFC 7313): never that alone.
+    refresh: bool = False
+    enhanced: bool = False
 
     def uses(self, family):
         """Whether routes of this AFI and SAFI are in use."""
@@ -42,16 +50,16 @@ def reset(code, subcode, info=b""):
     return ("reset", code, subcode, info)
 
 
-def head_fault(header):
-    """The answer to a header of 19 octets, or None."""
+def head_fault(header, has_refresh=False):
+    """The answer to a header of 19 octets, or None. Any Length of a ROUTE-REFRESH is judged with its body."""
     length, kind = number(header[16:18]), header[18]
     if header[:16] != MARKER:
         return reset(1, 1)
     if not 19 <= length <= 4096:
         return reset(1, 2, header[16:18])
-    if kind not in LEAST:
+    if kind not in LEAST and not (has_refresh and kind == ROUTE_REFRESH):
         return reset(1, 3, header[18:19])
-    if length < LEAST[kind] or (kind == KEEPALIVE and length != 19):
+    if length < LEAST.get(kind, 19) or (kind == KEEPALIVE and length != 19):
         return reset(1, 2, header[16:18])
     return None
 
@@ -116,6 +124,16 @@ def read_open(body):
     if identifier == bytes(4):
         return reset(2, 3)
     return ("open", number(body[1:3]), hold, identifier, capabilities)
+
+
+def read_refresh(is_enhanced, body):
+    """("refresh", AFI, SAFI, subtype), or a reset. Without RFC 7313 the third octet is reserved, and ignored; what follows the four has no effect."""
+    subtype = body[2] if is_enhanced and len(body) > 2 else REQUEST
+    if subtype in (BEGIN, END) and len(body) != 4:
+        return reset(7, 1, message(ROUTE_REFRESH, body)[:MOST_DATA])
+    if len(body) < 4:
+        return reset(1, 2, spelled(2, 19 + len(body)))
+    return ("refresh", number(body[:2]), body[3], subtype)
 
 
 def read_path(width, kinds, value):
@@ -289,14 +307,16 @@ def outcome(context, kind, body):
         return read_open(body)
     if kind == UPDATE:
         return verdict(context, body)
+    if kind == ROUTE_REFRESH:
+        return read_refresh(context.enhanced, body)
     return ("told", body[0], body[1], body[2:]) if kind == NOTIFICATION else ("alive",)
 
 
-def frames(octets):
+def frames(octets, has_refresh=False):
     """Each message of a stream as (offset, octets), and then the offset of the rest and the fault of its header, or None."""
     found, at = [], 0
     while len(octets) - at >= 19:
-        fault = head_fault(octets[at : at + 19])
+        fault = head_fault(octets[at : at + 19], has_refresh)
         length = number(octets[at + 16 : at + 18])
         if fault or len(octets) - at < length:
             return found, at, fault
@@ -307,7 +327,7 @@ def frames(octets):
 
 def seen(context, octets):
     """Each outcome as (offset, octets of the message or none, outcome), and the end: "head", "reset", or the length of an incomplete message."""
-    found, rest, fault = frames(octets)
+    found, rest, fault = frames(octets, context.refresh)
     outcomes = []
     for at, octets_of in found:
         answer = outcome(context, octets_of[18], octets_of[19:])

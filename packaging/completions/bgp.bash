@@ -13,12 +13,12 @@ _bgp() {
                 words='show explain check narrow clean to-hex from-hex loop help -h --help -V --version'
             else
                 case "${COMP_WORDS[1]}" in
-                    show) words='--hex --as4 --ip4 --ip6 --internal --opens --only-faults --json -h --help' ;;
-                    explain) words='--hex --as4 --ip4 --ip6 --internal --opens --only-faults --json -h --help' ;;
-                    check) words='--hex --as4 --ip4 --ip6 --internal --opens -h --help' ;;
-                    narrow) words='--ip4 --ip6 --internal --opens -h --help' ;;
-                    clean) words='--hex --as4 --ip4 --ip6 --internal --opens --drop --drop-unknown --pass -h --help' ;;
-                    to-hex) words='-h --help' ;;
+                    show) words='--hex --as4 --ip4 --ip6 --internal --refresh --enhanced-refresh --opens --only-faults --json -h --help' ;;
+                    explain) words='--hex --as4 --ip4 --ip6 --internal --refresh --enhanced-refresh --opens --only-faults --json -h --help' ;;
+                    check) words='--hex --as4 --ip4 --ip6 --internal --refresh --enhanced-refresh --opens -h --help' ;;
+                    narrow) words='--ip4 --ip6 --internal --refresh --enhanced-refresh --opens -h --help' ;;
+                    clean) words='--hex --as4 --ip4 --ip6 --internal --refresh --enhanced-refresh --opens --drop --drop-unknown --pass -h --help' ;;
+                    to-hex) words='--refresh -h --help' ;;
                     from-hex) words='-h --help' ;;
                     loop) words='--tcp --trace -h --help' files=yes ;;
                     help) words='show explain check narrow clean to-hex from-hex loop' ;;

@@ -4,12 +4,16 @@ use Rattle.std.specs.Io.KnownBytes.{Keeps}
 use Rattle.clap.specs.Words.{IsAmong, Text}
 use Rattle.clap.specs.declared.error.kind.ErrorKind.{ErrorKind}
 use Rattle.clap.specs.declared.error.kind.ErrorKind.TheVariants as error
+use Rattle.bgp_open.specs.declared.context.Context.{Context}
+use Rattle.bgp_terms.specs.Prelude.{Agreed, plain_terms}
+use Rattle.bgp_terms.specs.declared.refreshes.Refreshes.{Refreshes}
+use Rattle.bgp_terms.specs.declared.refreshes.Refreshes.TheVariants as refreshes
 use Rattle.bgp_wire.specs.Prelude.{has_octet}
 use Rattle.bgp_wire.specs.declared.octet_set.OctetSet.{OctetSet}
 use Rattle.bgp_clean.specs.Limits.{no_limits}
 use Rattle.bgp_engine.specs.declared.fault.ToolFault.{ToolFault}
 use Rattle.bgp_engine.specs.declared.tally.Tally.{Tally}
-use Rattle.bgp_engine.specs.Prelude.{Io, Reports, CheckedBy, NarrowedBy, Printed, PrintedBy, Hexed, CleanedBy, CleanedIn, without_words, status_of}
+use Rattle.bgp_engine.specs.Prelude.{Io, Reports, CheckedBy, CheckedUnder, NarrowedBy, NarrowedUnder, Printed, PrintedBy, PrintedUnder, Hexed, HexedWith, CleanedBy, CleanedIn, CleanedUnder, without_words, status_of}
 use Rattle.bgp_engine.specs.Run as engine
 use Rattle.bgp_engine.specs.declared.printing.Style.{Style}
 use Rattle.bgp_engine.specs.declared.printing.Style.TheVariants as style
@@ -61,22 +65,39 @@ fields_style_of json = if json then style.ExplainedJson else style.Explained
 abbrev pub cleaned_by : OctetSet → List ℕ → Reports
 cleaned_by drops theirs = CleanedBy theirs (has_octet drops) no_limits
 
--- messages were printed in a style, in the context of the flags or in that of both OPENs
+-- a context, and ROUTE-REFRESH as the reader accepts it
+abbrev pub flag_terms : Context → Refreshes → Agreed
+flag_terms ctx accepted = record (plain_terms ctx) { refresh = accepted }
+
+-- the reports of the flags: in the context, or with ROUTE-REFRESH where that is offered
+abbrev pub by_flags : (Context → Reports) → (Agreed → Reports) → Context → Refreshes → Reports
+by_flags plain under ctx refreshes.None = plain ctx
+by_flags plain under ctx refreshes.Plain = under (flag_terms ctx refreshes.Plain)
+by_flags plain under ctx refreshes.Enhanced = under (flag_terms ctx refreshes.Enhanced)
+
+abbrev pub cleaned_in : OctetSet → Context → Reports
+cleaned_in drops ctx = CleanedIn ctx (has_octet drops) no_limits
+
+abbrev pub cleaned_under : OctetSet → Agreed → Reports
+cleaned_under drops terms = CleanedUnder terms (has_octet drops) no_limits
+
+-- messages were printed in a style, by the flags or by what both OPENs agree on
 abbrev pub Prints : Session → Style → Bool → Bool → Io → Result Tally ToolFault → Type 0
-Prints (Flags ctx) style only_faults hex io outcome = engine.Answers (Printed style only_faults ctx) hex io outcome
+Prints (Flags ctx accepted) style only_faults hex io outcome = engine.Answers (by_flags (Printed style only_faults) (PrintedUnder style only_faults) ctx accepted) hex io outcome
 Prints Opens style only_faults hex io outcome = RunsBy (PrintedBy style only_faults) hex io outcome
 
 -- the engine of a request ran, with this outcome: which one, and whether it read hexadecimal text
 abbrev pub Runs : Request → Io → Result Tally ToolFault → Type 0
 Runs (Show session hex json only_faults) io outcome = Prints session (style_of json) only_faults hex io outcome
 Runs (Explain session hex json only_faults) io outcome = Prints session (fields_style_of json) only_faults hex io outcome
-Runs (Check (Flags ctx) hex) io outcome = engine.Answers (Checked ctx) hex io outcome
+Runs (Check (Flags ctx accepted) hex) io outcome = engine.Answers (by_flags Checked CheckedUnder ctx accepted) hex io outcome
 Runs (Check Opens hex) io outcome = RunsBy CheckedBy hex io outcome
-Runs (Narrow (Flags ctx)) io outcome = engine.Answers (Narrowed ctx) false io outcome
+Runs (Narrow (Flags ctx accepted)) io outcome = engine.Answers (by_flags Narrowed NarrowedUnder ctx accepted) false io outcome
 Runs (Narrow Opens) io outcome = RunsBy NarrowedBy false io outcome
-Runs (Clean (Flags ctx) hex drops) io outcome = engine.Answers (CleanedIn ctx (has_octet drops) no_limits) hex io (without_words outcome)
+Runs (Clean (Flags ctx accepted) hex drops) io outcome = engine.Answers (by_flags (cleaned_in drops) (cleaned_under drops) ctx accepted) hex io (without_words outcome)
 Runs (Clean Opens hex drops) io outcome = RunsBy (cleaned_by drops) hex io (without_words outcome)
-Runs ToHex io outcome = engine.Answers Hexed false io outcome
+Runs (ToHex false) io outcome = engine.Answers Hexed false io outcome
+Runs (ToHex true) io outcome = engine.Answers (HexedWith refreshes.Plain) false io outcome
 Runs FromHex io outcome = engine.Answers Copied true io outcome
 Runs (Loop tcp false) io outcome = RunsScript io outcome
 Runs (Loop tcp true) io outcome = TracesScript io outcome
@@ -89,7 +110,7 @@ pub record HasRun (request : Request) (io : Io) (answer : ℕ) : Type 0 where
 
 -- what is narrowed has 4-octet AS numbers
 abbrev pub IsWide : Request → Type 0
-IsWide (Narrow (Flags ctx)) = ctx.as4 ≡ true
+IsWide (Narrow (Flags ctx accepted)) = ctx.as4 ≡ true
 IsWide _ = Unit {0}
 
 -- The words ask for an engine. It ran, as the outcome says, and the answer is its status.

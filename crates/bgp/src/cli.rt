@@ -1,17 +1,23 @@
 //! The command line of `bgp`.
 
-ghost use Rattle.std.specs.Prelude.{◌≡◌, false, map};
+ghost use Rattle.std.specs.Prelude.{◌≡◌, false, map, true};
 ghost use Rattle.clap.specs.Words.{kind_of};
-ghost use Rattle.bgp.specs.Command.{Answers, HasRun, IsExplained, IsQuiet, IsWide, Runs, RunsBy, Prints, cleaned_by, fields_style_of, style_of};
-ghost use Rattle.bgp_engine.specs.Prelude.{PrintedBy, without_words, CheckedBy, NarrowedBy, io};
+ghost use Rattle.bgp.specs.Command.{Answers, HasRun, IsExplained, IsQuiet, IsWide, Runs, RunsBy, Prints, by_flags, cleaned_by, cleaned_in, cleaned_under, fields_style_of, style_of};
+ghost use Rattle.bgp_engine.specs.Prelude.{Printed, PrintedBy, PrintedUnder, without_words, CheckedBy, CheckedUnder, NarrowedBy, NarrowedUnder, io};
+ghost use Rattle.bgp_engine.specs.Check.{Checked};
+ghost use Rattle.bgp_engine.specs.Narrow.{Narrowed};
+ghost use Rattle.bgp_engine.specs.Run as engine;
 
 use crate::hints::{Recorded, hint};
 use bgp_clean::Limits;
 use bgp_engine::{
-    Style, Tally, ToolFault, check, check_by_opens, clean_by_opens, clean_stream, from_hex,
-    narrow_by_opens, narrow_stream, print, print_by_opens, status, to_hex,
+    Style, Tally, ToolFault, check, check_by_opens, check_under, clean_by_opens, clean_stream,
+    clean_under, from_hex, narrow_by_opens, narrow_stream, narrow_under, print, print_by_opens,
+    print_under, status, to_hex, to_hex_with,
 };
 use bgp_loop::{read_file, run_file, trace_file};
+use bgp_open::Context;
+use bgp_terms::{Refreshes, WideTerms};
 use bgp_wire::OctetSet;
 use bgp_words::{Asked, Request, Session, parse};
 use clap::Error;
@@ -91,6 +97,89 @@ fn print_opened<H: Files, R: Read, W: Write>(
     }
 }
 
+// Prints by the flags.
+fn print_flagged<R: Read, W: Write>(
+    alloc: Global,
+    style: Style,
+    only_faults: bool,
+    ctx: &Context,
+    refreshes: Refreshes,
+    hex: bool,
+    input: &mut R,
+    output: &mut W,
+) -> Result<Tally, ToolFault>
+    ensures { engine.Answers (by_flags (Printed style only_faults) (PrintedUnder style only_faults) ctx.now refreshes) hex (io R.remaining input.old input.new W.contents output.old output.new) result }
+{
+    match refreshes {
+        Refreshes::None => print(alloc, style, only_faults, ctx, hex, input, output),
+        Refreshes::Plain | Refreshes::Enhanced => {
+            let terms = WideTerms::with_refresh(*ctx, refreshes);
+            print_under(alloc, style, only_faults, &terms, hex, input, output)
+        }
+    }
+}
+
+// Checks by the flags.
+fn check_flagged<R: Read, W: Write>(
+    alloc: Global,
+    ctx: &Context,
+    refreshes: Refreshes,
+    hex: bool,
+    input: &mut R,
+    output: &mut W,
+) -> Result<Tally, ToolFault>
+    ensures { engine.Answers (by_flags Checked CheckedUnder ctx.now refreshes) hex (io R.remaining input.old input.new W.contents output.old output.new) result }
+{
+    match refreshes {
+        Refreshes::None => check(alloc, ctx, hex, input, output),
+        Refreshes::Plain | Refreshes::Enhanced => {
+            let terms = WideTerms::with_refresh(*ctx, refreshes);
+            check_under(alloc, &terms, hex, input, output)
+        }
+    }
+}
+
+// Narrows by the flags.
+fn narrow_flagged<R: Read, W: Write>(
+    alloc: Global,
+    ctx: &Context,
+    refreshes: Refreshes,
+    input: &mut R,
+    output: &mut W,
+) -> Result<Tally, ToolFault>
+    requires { ctx.now.as4 ≡ true }
+    ensures { engine.Answers (by_flags Narrowed NarrowedUnder ctx.now refreshes) false (io R.remaining input.old input.new W.contents output.old output.new) result }
+{
+    match refreshes {
+        Refreshes::None => narrow_stream(alloc, ctx, input, output),
+        Refreshes::Plain | Refreshes::Enhanced => {
+            let terms = WideTerms::with_refresh(*ctx, refreshes);
+            narrow_under(alloc, &terms, input, output)
+        }
+    }
+}
+
+// Cleans by the flags.
+fn clean_flagged<R: Read, W: Write>(
+    alloc: Global,
+    ctx: &Context,
+    refreshes: Refreshes,
+    drops: &OctetSet,
+    hex: bool,
+    input: &mut R,
+    output: &mut W,
+) -> Result<Tally, ToolFault>
+    ensures { engine.Answers (by_flags (cleaned_in drops.now) (cleaned_under drops.now) ctx.now refreshes) hex (io R.remaining input.old input.new W.contents output.old output.new) (without_words result) }
+{
+    match refreshes {
+        Refreshes::None => clean_stream(alloc, ctx, drops, &Limits::none(), hex, input, output),
+        Refreshes::Plain | Refreshes::Enhanced => {
+            let terms = WideTerms::with_refresh(*ctx, refreshes);
+            clean_under(alloc, &terms, drops, &Limits::none(), hex, input, output)
+        }
+    }
+}
+
 // Prints messages in a style.
 fn print_messages<H: Files, R: Read, W: Write>(
     rt: &H,
@@ -106,7 +195,18 @@ fn print_messages<H: Files, R: Read, W: Write>(
     ensures { Prints session style only_faults hex (io R.remaining input.old input.new W.contents output.old output.new) result }
 {
     match session {
-        Session::Flags(ctx) => print(alloc, style, only_faults, &ctx, hex, input, output),
+        Session::Flags(ctx, refreshes) => {
+            print_flagged(
+                alloc,
+                style,
+                only_faults,
+                &ctx,
+                refreshes,
+                hex,
+                input,
+                output,
+            )
+        }
         Session::Opens => { print_opened(rt, alloc, file, style, only_faults, hex, input, output) }
     }
 }
@@ -207,11 +307,13 @@ fn run<H: Files + Net, R: Read, W: Write>(
             output,
         ),
         Request::Check { session, hex } => match session {
-            Session::Flags(ctx) => check(alloc, &ctx, hex, input, output),
+            Session::Flags(ctx, refreshes) => check_flagged(
+                alloc, &ctx, refreshes, hex, input, output,
+            ),
             Session::Opens => check_opened(rt, alloc, asked.file, hex, input, output),
         },
         Request::Narrow { session } => match session {
-            Session::Flags(ctx) => narrow_stream(alloc, &ctx, input, output),
+            Session::Flags(ctx, refreshes) => narrow_flagged(alloc, &ctx, refreshes, input, output),
             Session::Opens => narrow_opened(rt, alloc, asked.file, input, output),
         },
         Request::Clean {
@@ -219,12 +321,15 @@ fn run<H: Files + Net, R: Read, W: Write>(
             hex,
             drops,
         } => match session {
-            Session::Flags(ctx) => {
-                clean_stream(alloc, &ctx, &drops, &Limits::none(), hex, input, output)
+            Session::Flags(ctx, refreshes) => {
+                clean_flagged(alloc, &ctx, refreshes, &drops, hex, input, output)
             }
             Session::Opens => clean_opened(rt, alloc, asked.file, &drops, hex, input, output),
         },
-        Request::ToHex => to_hex(alloc, input, output),
+        Request::ToHex { refresh } if refresh => {
+            to_hex_with(alloc, Refreshes::Plain, input, output)
+        }
+        Request::ToHex { .. } => to_hex(alloc, input, output),
         Request::FromHex => from_hex(alloc, input, output),
         Request::Loop { tcp, trace } if trace => trace_file(rt, alloc, asked.file, tcp, output),
         Request::Loop { tcp, .. } => run_file(rt, alloc, asked.file, tcp, output),

@@ -27,7 +27,7 @@ fn command_of(request: &Request) -> &'static str {
         Request::Check { .. } => "check",
         Request::Narrow { .. } => "narrow",
         Request::Clean { .. } => "clean",
-        Request::ToHex => "to-hex",
+        Request::ToHex { .. } => "to-hex",
         Request::FromHex => "from-hex",
         Request::Loop { .. } => "loop",
     }
@@ -41,7 +41,7 @@ fn is_of_text(request: &Request) -> bool {
         | Request::Check { hex, .. }
         | Request::Clean { hex, .. } => *hex,
         Request::FromHex => true,
-        Request::Narrow { .. } | Request::ToHex | Request::Loop { .. } => false,
+        Request::Narrow { .. } | Request::ToHex { .. } | Request::Loop { .. } => false,
     }
 }
 
@@ -52,7 +52,8 @@ fn has_hex(request: &Request) -> bool {
         | Request::Explain { .. }
         | Request::Check { .. }
         | Request::Clean { .. } => true,
-        Request::Narrow { .. } | Request::ToHex | Request::FromHex | Request::Loop { .. } => false,
+        Request::Narrow { .. } | Request::ToHex { .. } | Request::FromHex | Request::Loop { .. } =>
+            false,
     }
 }
 
@@ -64,7 +65,7 @@ fn session_of(request: &Request) -> Option<Session> {
         | Request::Check { session, .. }
         | Request::Narrow { session }
         | Request::Clean { session, .. } => Some(*session),
-        Request::ToHex | Request::FromHex | Request::Loop { .. } => None,
+        Request::ToHex { .. } | Request::FromHex | Request::Loop { .. } => None,
     }
 }
 
@@ -298,7 +299,7 @@ fn tell_opens<H: Files, E: Write>(
     octets: &[u8],
 ) {
     match session_of(&asked.request) {
-        Some(Session::Flags(ctx)) => {
+        Some(Session::Flags(ctx, _)) => {
             if let Some(peer) = speaker_of(octets) {
                 tell_offer(errors, &ctx, &peer);
             }

@@ -6,6 +6,8 @@ pub mod Written
 pub mod BlockLemmas
 pub mod Reading
 pub mod Walks
+pub mod Plainly
+pub mod Wides
 pub mod Digits
 pub mod Narrows
 pub mod FirstOpens

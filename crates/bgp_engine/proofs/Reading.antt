@@ -74,28 +74,28 @@ module _ {reports0 : Reports} {hex : Bool} {r0 w0 : Option (List ℕ)} where
       is_fault = (sym (ap (λ (x : List ℕ). (written ++ told) ++ x) none ∙ append-nil (written ++ told)), bad);
     }
 
-    all_of : (q : Report) → q.lines ≡ [] → written ++ (told ++ q.last) ≡ ((written ++ told) ++ q.lines) ++ q.last
-    all_of q none = sym (append_assoc written told q.last) ∙ ap (λ (x : List ℕ). x ++ q.last) (sym (ap (λ (x : List ℕ). (written ++ told) ++ x) none ∙ append-nil (written ++ told)))
+    all_of : (q : Report) → written ++ (told ++ (q.lines ++ q.last)) ≡ ((written ++ told) ++ q.lines) ++ q.last
+    all_of q = sym (append_assoc written told (q.lines ++ q.last)) ∙ sym (append_assoc (written ++ told) q.lines q.last)
 
     -- a prefix of the collected and the last text was written
-    pub fails_write : (q : Report) → reports [] q → q.lines ≡ [] → AppendsFront w w1 (told ++ q.last) → Fails (OfOctets reports0) hex (io r0 w0 r w1) ToolFault.Write
-    fails_write q g none a = record {
+    pub fails_write : (q : Report) → reports [] q → AppendsFront w w1 (told ++ (q.lines ++ q.last)) → Fails (OfOctets reports0) hex (io r0 w0 r w1) ToolFault.Write
+    fails_write q g a = record {
       text = text;
       read = s.read;
       report = behind (written ++ told) q;
       reported = (stream_octets hex text s.are, s.lifts q g);
       written = written ++ a.front;
       wrote = Appends-trans w0 w w1 written a.front s.wrote a.appends;
-      is_fault = (a.is_front.0, sym (all_of q none) ∙ ap (λ (x : List ℕ). written ++ x) a.is_front.1 ∙ sym (append_assoc written a.front a.is_front.0));
+      is_fault = (a.is_front.0, sym (all_of q) ∙ ap (λ (x : List ℕ). written ++ x) a.is_front.1 ∙ sym (append_assoc written a.front a.is_front.0));
     }
 
     -- the collected text wasn't written
-    pub fails_put : (q : Report) (f : ToolFault) → reports [] q → q.lines ≡ [] → FailsWithin w w1 told f → Fails (OfOctets reports0) hex (io r0 w0 r w1) f
-    fails_put q f g none h =
+    pub fails_put : (q : Report) (f : ToolFault) → reports [] q → FailsWithin w w1 told f → Fails (OfOctets reports0) hex (io r0 w0 r w1) f
+    fails_put q f g h =
         subst (λ (x : ToolFault). Fails (OfOctets reports0) hex (io r0 w0 r w1) x) (sym h.is_write)
-        (fails_write q g none (record {
+        (fails_write q g (record {
           front = h.wrote.front;
-          is_front = (h.wrote.is_front.0 ++ q.last, ap (λ (x : List ℕ). x ++ q.last) h.wrote.is_front.1 ∙ append_assoc h.wrote.front h.wrote.is_front.0 q.last);
+          is_front = (h.wrote.is_front.0 ++ (q.lines ++ q.last), ap (λ (x : List ℕ). x ++ (q.lines ++ q.last)) h.wrote.is_front.1 ∙ append_assoc h.wrote.front h.wrote.is_front.0 (q.lines ++ q.last));
           appends = h.wrote.appends;
         }))
 
@@ -108,7 +108,7 @@ module _ {reports0 : Reports} {hex : Bool} {r0 w0 : Option (List ℕ)} where
       report = behind (written ++ told) a.report;
       reported = (stream_octets hex text s.are, s.lifts a.report a.reported);
       answers = a.answers;
-      wrote = subst (Appends w0 w1) (all_of a.report a.none) (Appends-trans w0 w w1 written (told ++ a.report.last) s.wrote a.wrote);
+      wrote = subst (Appends w0 w1) (all_of a.report) (Appends-trans w0 w w1 written (told ++ (a.report.lines ++ a.report.last)) s.wrote a.wrote);
       all_read = all_read a.report a.reported;
     }
 
@@ -121,9 +121,9 @@ module _ {reports0 : Reports} {hex : Bool} {r0 w0 : Option (List ℕ)} where
       read = s.read;
       report = behind (written ++ told) a.report;
       reported = (stream_octets hex text s.are, s.lifts a.report a.reported);
-      written = written ++ (told ++ a.report.last);
-      wrote = Appends-trans w0 w w1 written (told ++ a.report.last) s.wrote a.wrote;
-      is_fault = is (behind (written ++ told) a.report) (written ++ (told ++ a.report.last)) (all_of a.report a.none) a.answers (all_read a.report a.reported);
+      written = written ++ (told ++ (a.report.lines ++ a.report.last));
+      wrote = Appends-trans w0 w w1 written (told ++ (a.report.lines ++ a.report.last)) s.wrote a.wrote;
+      is_fault = is (behind (written ++ told) a.report) (written ++ (told ++ (a.report.lines ++ a.report.last))) (all_of a.report) a.answers (all_read a.report a.reported);
     }
 
     pub fails_memory : WritesNone reports w w1 → Fails (OfOctets reports0) hex (io r0 w0 r w1) ToolFault.Memory
@@ -140,7 +140,7 @@ module _ {reports0 : Reports} {hex : Bool} {r0 w0 : Option (List ℕ)} where
     pub finished : (answer : Result Tally ToolFault) → ((q : Report) → reports [] q → IsAllRead hex text r q.end_of) → Finished reports told w w1 answer → Answers (OfOctets reports0) hex (io r0 w0 r w1) answer
     finished (Ok tally) all_read a = finishes tally all_read a
     finished (Err ToolFault.Memory) all_read a = fails_memory a
-    finished (Err ToolFault.Write) all_read a = fails_write a.report a.reported a.none a.wrote
+    finished (Err ToolFault.Write) all_read a = fails_write a.report a.reported a.wrote
     finished (Err ToolFault.Read) all_read a = absurd a
     finished (Err (ToolFault.BadHex n)) all_read a = absurd a
     finished (Err (ToolFault.Script n)) all_read a = absurd a

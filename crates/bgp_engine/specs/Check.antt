@@ -1,12 +1,14 @@
 -- What `check` prints.
 use Rattle.std.specs.Prelude.{ℕ, List, [], ◌∷◌, ◌++◌, codes, Ok}
-use Rattle.bgp_engine.specs.Below.{Context, Outcome, stream_rules, end_line}
+use Rattle.bgp_engine.specs.Below.{Agreed, Context, Outcome, stream_rules, end_line, plain}
 use Rattle.std.specs.Fmt.{decimal}
 use Rattle.bgp_engine.specs.declared.tally.Tally.{Tally}
 use Rattle.bgp_engine.specs.Rules.{Rules, IsReport}
 use Rattle.bgp_engine.specs.Run.{Reports}
 use Rattle.bgp_engine.specs.Show.{class_of}
+use Rattle.bgp_engine.specs.Refreshed.{unwritten}
 use Rattle.bgp_engine.specs.Tally.{no_tally}
+use Rattle.bgp_engine.specs.Wide.{wide_rules}
 
 -- the counts in one line
 abbrev pub counts_line : Tally → List ℕ
@@ -16,8 +18,10 @@ counts_line t =
 -- no line of a message: the counts, and the line of the end
 abbrev pub check_rules : Context → Rules Outcome
 check_rules ctx = record {
+  types = plain;
   judge = stream_rules ctx;
   line = λ _ _ _ _. [];
+  refresh = unwritten;
   class = class_of;
   last = λ tally. counts_line tally ++ end_line tally.end;
   rest = λ _. [];
@@ -26,3 +30,7 @@ check_rules ctx = record {
 
 abbrev pub Checked : Context → Reports
 Checked ctx = IsReport (check_rules ctx) 0 no_tally
+
+-- the same where ROUTE-REFRESH may be agreed on
+abbrev pub CheckedUnder : Agreed → Reports
+CheckedUnder terms = IsReport (wide_rules terms.refresh (check_rules terms.context)) 0 no_tally

@@ -1,7 +1,8 @@
 -- What `clean` writes: the messages of a stream as they are passed on, up to the first of which nothing is (RFC 7606).
-use Rattle.std.specs.Prelude.{ℕ, Bool, true, false, ◌==◌, List, [], Option, None, Some, option_map, is_err, Result, Ok, Err, if◌then◌else◌}
+use Rattle.std.specs.Prelude.{◌⊎◌, ℕ, Bool, true, false, ◌==◌, List, [], Option, None, Some, option_map, is_err, Result, Ok, Err, if◌then◌else◌}
 use Rattle.bgp_engine.specs.Below.{result_ok}
-use Rattle.bgp_engine.specs.Below.{End, HeadFault, Kind, head_notification, Context, CleanFault}
+use Rattle.bgp_frame.specs.declared.kind.WideKind.{WideKind}
+use Rattle.bgp_engine.specs.Below.{Agreed, End, HeadFault, Kind, head_notification, Context, CleanFault, plain}
 use Rattle.bgp_frame.specs.Frame as frame
 use Rattle.bgp_msg.specs.declared.message.Message.{Message}
 use Rattle.bgp_clean.specs.declared.limits.Limits.{Limits}
@@ -14,8 +15,10 @@ use Rattle.bgp_engine.specs.declared.tally.Tally.{Tally}
 use Rattle.bgp_engine.specs.Agree.{agreed}
 use Rattle.bgp_engine.specs.File.{first_open, open_at}
 use Rattle.bgp_engine.specs.First.{start_by, Start, Starts, ReportedFrom}
+use Rattle.bgp_engine.specs.Refreshed.{Refreshed, unwritten}
 use Rattle.bgp_engine.specs.Rules.{Rules}
 use Rattle.bgp_engine.specs.Run.{Reports}
+use Rattle.bgp_engine.specs.Wide.{wide_rules}
 
 -- the written form of what is passed on, where something is
 abbrev pub clean_line : Context → Result (List Message) CleanFault → List ℕ
@@ -38,8 +41,10 @@ fault_of_head f = Err (CleanFault.Reset (head_notification f).code (head_notific
 -- of the messages after the first
 abbrev pub clean_rules : Context → (ℕ → Bool) → Limits → Rules (Result (List Message) CleanFault)
 clean_rules ctx drops limits = record {
+  types = plain;
   judge = record { of_message = cleaned ctx drops (refuses_in ctx limits) false; of_fault = fault_of_head; resets = is_err };
   line = λ _ _ _ o. clean_line ctx o;
+  refresh = unwritten;
   class = clean_class;
   last = λ _. [];
   rest = λ _. [];
@@ -55,19 +60,29 @@ abbrev pub first_of : Context → (ℕ → Bool) → Limits → Option frame.Mes
 first_of ctx drops limits None = None
 first_of ctx drops limits (Some m) = first_line ctx drops limits m m.kind
 
-abbrev pub start_in : (ℕ → Bool) → Limits → Option frame.Message → Context → Start (Result (List Message) CleanFault)
+abbrev pub start_in : (ℕ → Bool) → Limits → Option frame.Message → Context → Start Kind (Result (List Message) CleanFault)
 start_in drops limits first ctx = record { rules = clean_rules ctx drops limits; first = first_of ctx drops limits first }
 
 -- in a context that is known
-abbrev pub starts_in : Context → (ℕ → Bool) → Limits → Starts (Result (List Message) CleanFault)
+abbrev pub starts_in : Context → (ℕ → Bool) → Limits → Starts Kind (Result (List Message) CleanFault)
 starts_in ctx drops limits first = Ok (start_in drops limits first ctx)
 
--- in the context that the first message and that of the other direction agree on
-abbrev pub starts_by : List ℕ → (ℕ → Bool) → Limits → Starts (Result (List Message) CleanFault)
-starts_by theirs drops limits first = start_by (start_in drops limits first) (agreed (open_at first) (first_open theirs))
+-- where ROUTE-REFRESH may be agreed on, which isn't passed on: an OPEN that is doesn't offer it
+abbrev pub start_under : (ℕ → Bool) → Limits → Option frame.Message → Agreed → Start WideKind (Result (List Message) CleanFault ⊎ Refreshed)
+start_under drops limits first terms = record { rules = wide_rules terms.refresh (clean_rules terms.context drops limits); first = first_of terms.context drops limits first }
+
+abbrev pub starts_under : Agreed → (ℕ → Bool) → Limits → Starts WideKind (Result (List Message) CleanFault ⊎ Refreshed)
+starts_under terms drops limits first = Ok (start_under drops limits first terms)
+
+-- by what the first message and that of the other direction agree on
+abbrev pub starts_by : List ℕ → (ℕ → Bool) → Limits → Starts WideKind (Result (List Message) CleanFault ⊎ Refreshed)
+starts_by theirs drops limits first = start_by (start_under drops limits first) (agreed (open_at first) (first_open theirs))
 
 abbrev pub CleanedIn : Context → (ℕ → Bool) → Limits → Reports
 CleanedIn ctx drops limits = ReportedFrom (starts_in ctx drops limits)
+
+abbrev pub CleanedUnder : Agreed → (ℕ → Bool) → Limits → Reports
+CleanedUnder terms drops limits = ReportedFrom (starts_under terms drops limits)
 
 abbrev pub CleanedBy : List ℕ → (ℕ → Bool) → Limits → Reports
 CleanedBy theirs drops limits = ReportedFrom (starts_by theirs drops limits)

@@ -5,7 +5,9 @@ pub mod HexText
 pub mod Output
 pub mod Report
 pub mod Run
+pub mod Refreshed
 pub mod Rules
+pub mod Wide
 pub mod Show
 pub mod ShowJson
 pub mod OnlyFaults

@@ -1,6 +1,6 @@
 -- What `narrow` writes: the messages of a session with 4-octet AS numbers, as sent to a 2-octet speaker (RFC 6793).
 use Rattle.std.specs.Prelude.{ℕ, false, not, ◌&&◌, ◌==◌, List, [], Option, None, Some, is_none, unwrap_or, Result, Ok, Err, if◌then◌else◌}
-use Rattle.bgp_engine.specs.Below.{End, octets_of, Context, narrowed_update, with_as4, Outcome, out_of, canonical, is_valid, is_too_long}
+use Rattle.bgp_engine.specs.Below.{Agreed, End, octets_of, Context, narrowed_update, with_as4, Outcome, out_of, canonical, is_valid, is_too_long, plain}
 use Rattle.bgp_frame.specs.Frame as frame
 use Rattle.bgp_msg.specs.declared.message.Message.{Message}
 use Rattle.bgp_engine.specs.declared.class.Class.{Class}
@@ -9,7 +9,9 @@ use Rattle.bgp_engine.specs.declared.fault.ToolFault.TheVariants.{Narrow}
 use Rattle.bgp_engine.specs.declared.tally.Tally.{Tally}
 use Rattle.bgp_engine.specs.Rules.{Rules, IsReport}
 use Rattle.bgp_engine.specs.Run.{Reports}
+use Rattle.bgp_engine.specs.Refreshed.{copied}
 use Rattle.bgp_engine.specs.Tally.{no_tally}
+use Rattle.bgp_engine.specs.Wide.{wide_rules}
 
 -- the written form, where it can be written
 abbrev pub written_in : Context → Message → Option (List ℕ)
@@ -41,8 +43,10 @@ narrow_answer (End.Wait n) tally place = if n == 0 then Ok tally else Err (Narro
 -- it stops at the first message that can't be narrowed, and at a header's fault
 abbrev pub narrow_rules : Context → Rules (Option (List ℕ))
 narrow_rules ctx = record {
+  types = plain;
   judge = record { of_message = λ m. narrowed_outcome ctx m (out_of ctx m); of_fault = λ _. None; resets = is_none };
   line = λ _ _ _ o. unwrap_or o [];
+  refresh = copied;
   class = narrowed_class;
   last = λ _. [];
   rest = λ _. [];
@@ -51,3 +55,7 @@ narrow_rules ctx = record {
 
 abbrev pub Narrowed : Context → Reports
 Narrowed ctx = IsReport (narrow_rules ctx) 0 no_tally
+
+-- the same where ROUTE-REFRESH may be agreed on, which is passed on unchanged
+abbrev pub NarrowedUnder : Agreed → Reports
+NarrowedUnder terms = IsReport (wide_rules terms.refresh (narrow_rules terms.context)) 0 no_tally

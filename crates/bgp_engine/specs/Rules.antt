@@ -1,22 +1,29 @@
 -- How an engine reports the messages of a stream.
 use Rattle.std.specs.Prelude.{◌≡◌, ℕ, ◌+◌, ◌==◌, List, [], ◌∷◌, ◌++◌, take, drop, Result, if◌then◌else◌}
-use Rattle.bgp_engine.specs.Below.{End, StreamRules, Gives}
+use Rattle.bgp_engine.specs.Below.{End, GivesIn, Kind, StreamRulesIn, Types}
 use Rattle.bgp_engine.specs.declared.class.Class.{Class}
 use Rattle.bgp_engine.specs.declared.tally.Tally.{Tally}
 use Rattle.bgp_engine.specs.declared.fault.ToolFault.{ToolFault}
+use Rattle.bgp_engine.specs.Refreshed.{Refreshed}
 use Rattle.bgp_engine.specs.Report.{Report}
 
--- How messages and headers are judged; what is written of an outcome, by its offset, its length, and its
--- octets: those of a message, or the 19 of a header with a fault, whose length is 0; what it counts as;
--- what is written last, by the counts and the end, and of an incomplete message; and the answer, by the counts, the end and the offset after
--- all messages that let the stream continue.
-pub record Rules (Outcome : Type 0) : Type 0 where
-  pub judge : StreamRules Outcome
+-- The types of message that are read; how messages and headers are judged; what is written of an outcome, by its offset, its length, and its
+-- octets: those of a message, or the 19 of a header with a fault, whose length is 0; what is written of a ROUTE-REFRESH, where it is a message,
+-- by the same; what an outcome counts as; what is written last, by the counts and the end, and of an incomplete message; and the answer, by the
+-- counts, the end and the offset after all messages that let the stream continue.
+pub record RulesIn (K Outcome : Type 0) : Type 0 where
+  pub types : Types K
+  pub judge : StreamRulesIn K Outcome
   pub line : ℕ → ℕ → List ℕ → Outcome → List ℕ
+  pub refresh : ℕ → ℕ → List ℕ → Refreshed → List ℕ
   pub class : Outcome → Class
   pub last : Tally → List ℕ
   pub rest : List ℕ → List ℕ
   pub answer : Tally → ℕ → Result Tally ToolFault
+
+-- by the types of RFC 4271
+abbrev pub Rules : Type 0 → Type 0
+Rules Outcome = RulesIn Kind Outcome
 
 -- a whole message is one message; a header's fault, of length 0, is none
 abbrev pub messages_in : ℕ → ℕ
@@ -31,7 +38,7 @@ counted tally len Class.Took = record tally { messages = tally.messages + messag
 counted tally len Class.Withdrawn = record tally { messages = tally.messages + messages_in len; withdrawn = tally.withdrawn + 1 }
 counted tally len Class.Reset = record tally { messages = tally.messages + messages_in len; resets = tally.resets + 1 }
 
-module _ {Outcome : Type 0} (rules : Rules Outcome) where
+module _ {K Outcome : Type 0} (rules : RulesIn K Outcome) where
   -- the octets of an outcome that lets the stream continue
   abbrev pub passed : ℕ × Outcome → ℕ
   passed o = if rules.judge.resets o.1 then 0 else o.0
@@ -69,5 +76,5 @@ module _ {Outcome : Type 0} (rules : Rules Outcome) where
   pub record IsReport (place : ℕ) (tally : Tally) (stream : List ℕ) (r : Report) : Type 0 where
     pub outcomes : List (ℕ × Outcome)
     pub end_of : End
-    pub gives : Gives rules.judge stream outcomes end_of
+    pub gives : GivesIn rules.types rules.judge stream outcomes end_of
     pub told : r ≡ report_of place tally stream outcomes end_of

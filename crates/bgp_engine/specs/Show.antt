@@ -1,11 +1,13 @@
 -- What `show` prints.
-use Rattle.bgp_engine.specs.Below.{ℕ, List, [], Option, Ok, End, Context, Outcome, Span, end_line}
+use Rattle.bgp_engine.specs.Below.{ℕ, List, [], Option, Ok, Agreed, End, Context, Outcome, Refresh, Span, end_line, plain, refresh_line}
 use Rattle.bgp_text.specs.Outcome.{outcome_lines}
 use Rattle.bgp_engine.specs.declared.class.Class.{Class}
 use Rattle.bgp_engine.specs.Heard.{Heard, heard_in, place_in}
 use Rattle.bgp_engine.specs.Rules.{Rules, IsReport}
 use Rattle.bgp_engine.specs.Run.{Reports}
+use Rattle.bgp_engine.specs.Refreshed.{refresh_shown}
 use Rattle.bgp_engine.specs.Tally.{no_tally}
+use Rattle.bgp_engine.specs.Wide.{wide_rules}
 
 -- what an outcome counts as
 abbrev pub class_of : Outcome → Class
@@ -13,11 +15,13 @@ class_of (Outcome.Took m notes) = Class.Took
 class_of (Outcome.Withdraw routes notes) = Class.Withdrawn
 class_of (Outcome.Reset n) = Class.Reset
 
--- the text of each outcome, with the octets for which it is a reset, and after them that of the end
-abbrev pub printed_rules : (ℕ → ℕ → Option Span → Outcome → List ℕ) → (End → List ℕ) → Context → Rules Heard
-printed_rules shown shown_end ctx = record {
+-- the text of each outcome, with the octets for which it is a reset, that of a ROUTE-REFRESH, and after them that of the end
+abbrev pub printed_rules : (ℕ → ℕ → Option Span → Outcome → List ℕ) → (ℕ → ℕ → Refresh → List ℕ) → (End → List ℕ) → Context → Rules Heard
+printed_rules shown shown_refresh shown_end ctx = record {
+  types = plain;
   judge = heard_in ctx;
   line = λ place len octets h. shown place len (place_in ctx octets h.front) h.outcome;
+  refresh = refresh_shown shown shown_refresh;
   class = λ h. class_of h.outcome;
   last = λ tally. shown_end tally.end;
   rest = λ _. [];
@@ -29,4 +33,8 @@ abbrev pub shown_lines : ℕ → ℕ → Option Span → Outcome → List ℕ
 shown_lines place len span o = outcome_lines place len o
 
 abbrev pub Shown : Context → Reports
-Shown ctx = IsReport (printed_rules shown_lines end_line ctx) 0 no_tally
+Shown ctx = IsReport (printed_rules shown_lines refresh_line end_line ctx) 0 no_tally
+
+-- the same where ROUTE-REFRESH may be agreed on
+abbrev pub ShownUnder : Agreed → Reports
+ShownUnder terms = IsReport (wide_rules terms.refresh (printed_rules shown_lines refresh_line end_line terms.context)) 0 no_tally

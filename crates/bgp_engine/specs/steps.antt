@@ -4,6 +4,7 @@ pub mod HexSteps
 pub mod Engine
 pub mod Blocks
 pub mod Pages
+pub mod Extends
 pub mod Walking
 pub mod PageSteps
 pub mod Starting

@@ -1,18 +1,21 @@
 //! The engine `check`.
 
-ghost use Rattle.std.specs.Prelude.{◌≡◌, ◌+◌, ◌≤◌, ◌++◌, length, IfOk, OnOk};
+ghost use Rattle.std.specs.Prelude.{◌≡◌, ◌+◌, ◌++◌, OnOk};
 ghost use Rattle.bgp_engine.specs.Below.{string_bytes};
-ghost use Rattle.bgp_engine.specs.Check.{Checked, counts_line};
+ghost use Rattle.bgp_engine.specs.Below.{wide_terms};
+ghost use Rattle.bgp_engine.specs.Check.{Checked, CheckedUnder, counts_line};
 ghost use Rattle.bgp_engine.specs.Run.{Answers, io};
 
 use crate::class::{Class, class_of};
 use crate::fault::ToolFault;
 use crate::page::Page;
 use crate::tally::Tally;
-use crate::walk::walk_stream;
-use bgp_frame::{Frame, HeadFault};
+use crate::walk::{walk_stream, walk_under};
+use bgp_frame::{Frame, HeadFault, Notification};
 use bgp_msg::view_frame;
 use bgp_open::Context;
+use bgp_refresh::RefreshView;
+use bgp_terms::WideTerms;
 use bgp_text::put_end;
 use bgp_update::UpdateView;
 use std::alloc::{AllocError, Global};
@@ -40,10 +43,11 @@ pub(crate) struct CheckPage {
 }
 
 impl Page for CheckPage {
-    ghost use Rattle.bgp_engine.specs.Below.{true, string_bytes, unwrap_or};
+    ghost use Rattle.std.specs.Prelude.{refl};
+    ghost use Rattle.bgp_engine.specs.Below.{true, string_bytes};
     ghost use Rattle.bgp_msg.specs.declared.outcome.Outcome as outcomes;
     ghost use Rattle.bgp_engine.specs.Check.{check_rules};
-    ghost use Rattle.bgp_engine.specs.steps.Pages.{plain};
+    ghost use Rattle.bgp_engine.specs.steps.Pages.{context_or, plain};
 
     ghost Outcome = { outcomes.Outcome };
 
@@ -53,10 +57,12 @@ impl Page for CheckPage {
 
     ghost fits = { λ _. true };
 
-    ghost plan = { λ page ctx. plain (check_rules (unwrap_or ctx page.ctx)) };
+    ghost plan = { λ page terms. plain (check_rules (context_or page.ctx terms)) };
 
-    fn agree(&mut self, ctx: &Context) -> bool {
-        self.ctx = *ctx;
+    ghost plainly = { λ _. refl };
+
+    fn agree(&mut self, terms: &WideTerms) -> bool {
+        self.ctx = terms.context;
         true
     }
 
@@ -70,6 +76,26 @@ impl Page for CheckPage {
     }
 
     fn fault(&mut self, _place: u64, _header: &[u8], _fault: HeadFault) -> Result<(), AllocError> {
+        Ok(())
+    }
+
+    fn refresh(
+        &mut self,
+        _place: u64,
+        _len: u16,
+        _body: &[u8],
+        _refresh: &RefreshView<'_>,
+    ) -> Result<(), AllocError> {
+        Ok(())
+    }
+
+    fn refuse(
+        &mut self,
+        _place: u64,
+        _len: u16,
+        _body: &[u8],
+        _why: &Notification,
+    ) -> Result<(), AllocError> {
         Ok(())
     }
 
@@ -130,4 +156,24 @@ pub fn check_within<R: Read, W: Write>(
         text: String::new(alloc),
     };
     walk_stream(turns, hex, page, input, output)
+}
+
+/// [`check`] by what was negotiated: a ROUTE-REFRESH is a message where the reader offers it.
+///
+/// # Errors
+/// As `check`.
+pub fn check_under<R: Read, W: Write>(
+    alloc: Global,
+    terms: &WideTerms,
+    hex: bool,
+    input: &mut R,
+    output: &mut W,
+) -> Result<Tally, ToolFault>
+    ensures { Answers (CheckedUnder (wide_terms terms.now)) hex (io R.remaining input.old input.new W.contents output.old output.new) result }
+{
+    let page = CheckPage {
+        ctx: terms.context,
+        text: String::new(alloc),
+    };
+    walk_under(u32::MAX, hex, page, terms.refresh, input, output)
 }

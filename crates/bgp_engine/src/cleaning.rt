@@ -1,12 +1,12 @@
 //! The engine `clean_stream`.
 
-ghost use Rattle.std.specs.Prelude.{◌≡◌, ◌+◌, [], length, option_map, IfOk};
+ghost use Rattle.std.specs.Prelude.{◌≡◌, ◌+◌, [], length, IfOk};
+ghost use Rattle.bgp_engine.specs.Below.{wide_terms};
 ghost use Rattle.bgp_engine.specs.Below.{has_octet, IsLength, message_in};
 ghost use Rattle.bgp_frame.specs.declared.kind.Kind.TheVariants as kind;
-ghost use Rattle.bgp_engine.specs.Clean.{CleanedBy, CleanedIn, without_words};
-ghost use Rattle.bgp_engine.specs.First.{ReportedFrom};
+ghost use Rattle.bgp_engine.specs.Clean.{CleanedBy, CleanedIn, CleanedUnder, without_words};
 ghost use Rattle.bgp_engine.specs.Run.{Answers, io};
-ghost use Rattle.bgp_engine.specs.steps.Cleaning.{clean_plan, page_rules, starts_for};
+ghost use Rattle.bgp_engine.specs.steps.Cleaning.{clean_plan, page_rules};
 ghost use Rattle.bgp_engine.specs.steps.Pages.{TakesFirst};
 
 use crate::class::Class;
@@ -16,8 +16,10 @@ use crate::page::Page;
 use crate::starting::start_stream;
 use crate::tally::Tally;
 use bgp_clean::{CleanFault, Cleaned, Limits, clean};
-use bgp_frame::{End, Frame, HeadFault, Kind};
+use bgp_frame::{End, Frame, HeadFault, Kind, Notification};
 use bgp_open::Context;
+use bgp_refresh::RefreshView;
+use bgp_terms::{Refreshes, WideTerms};
 use bgp_wire::OctetSet;
 use std::alloc::{AllocError, Global};
 use std::io::{Read, Write};
@@ -36,6 +38,22 @@ pub(crate) struct CleanPage {
 }
 
 impl CleanPage {
+    /// An empty page.
+    fn new(alloc: Global, ctx: Context, drops: &OctetSet, limits: &Limits) -> CleanPage
+        ensures context { result.ctx ≡ ctx }
+        ensures drops { result.drops ≡ drops.now }
+        ensures limits { result.limits ≡ limits.now }
+        ensures empty { result.octets.items ≡ [] }
+    {
+        CleanPage {
+            ctx,
+            drops: *drops,
+            limits: *limits,
+            octets: Vec::new(alloc),
+            why: None,
+        }
+    }
+
     /// Passes on an OPEN as the first message of the stream, where it can be.
     fn open(&mut self, frame: Frame<'_>) -> Result<bool, AllocError>
         requires length { IsLength frame.kind (19 + length frame.body.now) }
@@ -67,9 +85,11 @@ fn reason(fault: HeadFault) -> CleanFault {
 }
 
 impl Page for CleanPage {
-    ghost use Rattle.bgp_engine.specs.Below.{true, List, Result, unwrap_or, has_octet, CleanFault};
+    ghost use Rattle.std.specs.Prelude.{refl};
+    ghost use Rattle.bgp_engine.specs.Below.{true, List, Result, has_octet, CleanFault};
     ghost use Rattle.bgp_msg.specs.declared.message.Message.{Message};
     ghost use Rattle.bgp_engine.specs.steps.Cleaning.{clean_plan, page_rules};
+    ghost use Rattle.bgp_engine.specs.steps.Pages.{context_or};
 
     ghost Outcome = { Result (List Message) CleanFault };
 
@@ -79,10 +99,12 @@ impl Page for CleanPage {
 
     ghost fits = { λ _. true };
 
-    ghost plan = { λ page ctx. clean_plan (unwrap_or ctx page.ctx) (has_octet page.drops) page.limits };
+    ghost plan = { λ page terms. clean_plan (context_or page.ctx terms) (has_octet page.drops) page.limits };
 
-    fn agree(&mut self, ctx: &Context) -> bool {
-        self.ctx = *ctx;
+    ghost plainly = { λ _. refl };
+
+    fn agree(&mut self, terms: &WideTerms) -> bool {
+        self.ctx = terms.context;
         true
     }
 
@@ -116,6 +138,27 @@ impl Page for CleanPage {
 
     fn fault(&mut self, _place: u64, _header: &[u8], fault: HeadFault) -> Result<(), AllocError> {
         self.why = Some(reason(fault));
+        Ok(())
+    }
+
+    fn refresh(
+        &mut self,
+        _place: u64,
+        _len: u16,
+        _body: &[u8],
+        _refresh: &RefreshView<'_>,
+    ) -> Result<(), AllocError> {
+        Ok(())
+    }
+
+    fn refuse(
+        &mut self,
+        _place: u64,
+        _len: u16,
+        _body: &[u8],
+        why: &Notification,
+    ) -> Result<(), AllocError> {
+        self.why = Some(CleanFault::Reset(why.code, why.subcode));
         Ok(())
     }
 
@@ -157,23 +200,6 @@ fn with_words(answer: Result<Tally, ToolFault>, why: Option<CleanFault>) -> Resu
     }
 }
 
-// Runs a page over the messages of a stream.
-fn clean_page<R: Read, W: Write>(
-    alloc: Global,
-    turns: u32,
-    theirs: Option<&[u8]>,
-    hex: bool,
-    page: CleanPage,
-    input: &mut R,
-    output: &mut W,
-) -> Result<Tally, ToolFault>
-    requires { page.octets.items ≡ [] }
-    ensures { Answers (ReportedFrom (starts_for (option_map (λ t. t.now) theirs.entry) page)) hex (io R.remaining input.old input.new W.contents output.old output.new) (without_words result) }
-{
-    let (answer, starting) = start_stream(alloc, turns, theirs, hex, page, input, output);
-    with_words(answer, starting.walk.page.why)
-}
-
 /// Writes what is passed on of each message of a stream, in a context: well formed messages, whatever arrives (RFC
 /// 7606). An UPDATE that is accepted is passed on in its parts, in their written form, without what is discarded and
 /// without the unrecognised attributes whose types are in `drops`; routes whose announcement `limits` refuse are
@@ -213,14 +239,47 @@ pub fn clean_within<R: Read, W: Write>(
 ) -> Result<Tally, ToolFault>
     ensures { Answers (CleanedIn ctx.now (has_octet drops.now) limits.now) hex (io R.remaining input.old input.new W.contents output.old output.new) (without_words result) }
 {
-    let page = CleanPage {
-        ctx: *ctx,
-        drops: *drops,
-        limits: *limits,
-        octets: Vec::new(alloc),
-        why: None,
-    };
-    clean_page(alloc, turns, None, hex, page, input, output)
+    let page = CleanPage::new(alloc, *ctx, drops, limits);
+    let (answer, starting) = start_stream(
+        alloc,
+        turns,
+        None,
+        Refreshes::None,
+        hex,
+        page,
+        input,
+        output,
+    );
+    with_words(answer, starting.walk.page.why)
+}
+
+/// [`clean_stream`] by what was negotiated: ROUTE-REFRESH is read where the reader offers it, and isn't passed on.
+///
+/// # Errors
+/// As `clean_stream`.
+pub fn clean_under<R: Read, W: Write>(
+    alloc: Global,
+    terms: &WideTerms,
+    drops: &OctetSet,
+    limits: &Limits,
+    hex: bool,
+    input: &mut R,
+    output: &mut W,
+) -> Result<Tally, ToolFault>
+    ensures { Answers (CleanedUnder (wide_terms terms.now) (has_octet drops.now) limits.now) hex (io R.remaining input.old input.new W.contents output.old output.new) (without_words result) }
+{
+    let page = CleanPage::new(alloc, terms.context, drops, limits);
+    let (answer, starting) = start_stream(
+        alloc,
+        u32::MAX,
+        None,
+        terms.refresh,
+        hex,
+        page,
+        input,
+        output,
+    );
+    with_words(answer, starting.walk.page.why)
 }
 
 /// [`clean_stream`] in the context that the stream's first OPEN and that of the other direction agree on. `theirs` has
@@ -259,12 +318,16 @@ pub fn clean_by_opens_within<R: Read, W: Write>(
 ) -> Result<Tally, ToolFault>
     ensures { Answers (CleanedBy theirs.now (has_octet drops.now) limits.now) hex (io R.remaining input.old input.new W.contents output.old output.new) (without_words result) }
 {
-    let page = CleanPage {
-        ctx: UNKNOWN,
-        drops: *drops,
-        limits: *limits,
-        octets: Vec::new(alloc),
-        why: None,
-    };
-    clean_page(alloc, turns, Some(theirs), hex, page, input, output)
+    let page = CleanPage::new(alloc, UNKNOWN, drops, limits);
+    let (answer, starting) = start_stream(
+        alloc,
+        turns,
+        Some(theirs),
+        Refreshes::None,
+        hex,
+        page,
+        input,
+        output,
+    );
+    with_words(answer, starting.walk.page.why)
 }

@@ -12,11 +12,14 @@ use crate::field_form::FieldForm;
 use crate::heard::fault_of;
 use crate::only_faults::Choice;
 use crate::page::Page;
+use crate::refreshing::view_of;
 use crate::tally::Tally;
 use bgp_fields::{Fault, header_fault};
-use bgp_frame::{Frame, HeadFault, head};
+use bgp_frame::{Frame, HeadFault, Notification, head};
 use bgp_msg::{OutcomeView, view_frame};
 use bgp_open::Context;
+use bgp_refresh::{RefreshView, refresh_header};
+use bgp_terms::WideTerms;
 use bgp_update::UpdateView;
 use std::alloc::{AllocError, Global};
 
@@ -71,7 +74,7 @@ impl<F: FieldForm, C: Choice> ExplainPage<F, C> {
     ) -> Result<(), AllocError>
         requires { length self.old.octets.items ≤ 4096 }
         ensures lines { OnOk result (string_bytes self.new.text ≡ string_bytes self.old.text
-            ++ (if C.printed (outcome_value outcome.now) then F.form.message self.old.ctx place len self.old.octets.items fault (outcome_value outcome.now) else [])) }
+            ++ (if C.printed.outcome (outcome_value outcome.now) then F.form.message self.old.ctx place len self.old.octets.items fault (outcome_value outcome.now) else [])) }
         ensures context { self.new.ctx ≡ self.old.ctx }
     {
         if !self.choice.prints(outcome) {
@@ -121,10 +124,11 @@ impl<F: FieldForm, C: Choice> ExplainPage<F, C> {
 }
 
 impl<F: FieldForm, C: Choice> Page for ExplainPage<F, C> {
-    ghost use Rattle.bgp_engine.specs.Below.{true, string_bytes, unwrap_or};
+    ghost use Rattle.std.specs.Prelude.{refl};
+    ghost use Rattle.bgp_engine.specs.Below.{true, string_bytes};
     ghost use Rattle.bgp_engine.specs.Explain.{explained_rules};
     ghost use Rattle.bgp_engine.specs.Heard.{Heard};
-    ghost use Rattle.bgp_engine.specs.steps.Pages.{plain};
+    ghost use Rattle.bgp_engine.specs.steps.Pages.{context_or, plain};
 
     ghost Outcome = { Heard };
 
@@ -134,10 +138,12 @@ impl<F: FieldForm, C: Choice> Page for ExplainPage<F, C> {
 
     ghost fits = { λ _. true };
 
-    ghost plan = { λ page ctx. plain (explained_rules F.form C.printed (unwrap_or ctx page.ctx)) };
+    ghost plan = { λ page terms. plain (explained_rules F.form C.printed (context_or page.ctx terms)) };
 
-    fn agree(&mut self, ctx: &Context) -> bool {
-        self.ctx = *ctx;
+    ghost plainly = { λ _. refl };
+
+    fn agree(&mut self, terms: &WideTerms) -> bool {
+        self.ctx = terms.context;
         true
     }
 
@@ -151,6 +157,32 @@ impl<F: FieldForm, C: Choice> Page for ExplainPage<F, C> {
 
     fn fault(&mut self, place: u64, header: &[u8], fault: HeadFault) -> Result<(), AllocError> {
         self.put_fault(place, header, fault)
+    }
+
+    fn refresh(
+        &mut self,
+        place: u64,
+        len: u16,
+        _body: &[u8],
+        refresh: &RefreshView<'_>,
+    ) -> Result<(), AllocError> {
+        if !self.choice.prints_refresh(refresh) {
+            return Ok(());
+        }
+        self.form.put_request(&mut self.text, place, len, refresh)
+    }
+
+    fn refuse(
+        &mut self,
+        place: u64,
+        len: u16,
+        body: &[u8],
+        why: &Notification,
+    ) -> Result<(), AllocError> {
+        self.octets.clear();
+        self.octets.extend_from_slice(&refresh_header(len))?;
+        self.octets.extend_from_slice(body)?;
+        self.put(place, len, None, &OutcomeView::Reset(view_of(why)))
     }
 
     fn last(&mut self, tally: &Tally) -> Result<(), AllocError> {

@@ -8,13 +8,16 @@ use bgp_fields::Fault;
 use bgp_frame::End;
 use bgp_msg::OutcomeView;
 use bgp_open::Context;
-use bgp_text::{put_end, put_end_json, put_explained, put_explained_json};
+use bgp_refresh::RefreshView;
+use bgp_text::{
+    put_end, put_end_json, put_explained, put_explained_json, put_refresh, put_refresh_json,
+};
 use std::alloc::{AllocError, Global};
 
 /// How a message with its fields and the end of a stream are printed.
 pub(crate) trait FieldForm {
     ghost use Rattle.std.specs.Prelude.{◌≡◌, ◌≤◌, ◌++◌, length, OnOk};
-    ghost use Rattle.bgp_engine.specs.Below.{string_bytes, outcome_value};
+    ghost use Rattle.bgp_engine.specs.Below.{string_bytes, outcome_value, refresh_value};
     ghost use Rattle.bgp_engine.specs.Explain.{Form};
 
     /// Their texts.
@@ -34,6 +37,16 @@ pub(crate) trait FieldForm {
     ) -> Result<(), AllocError>
         requires { length octets.now ≤ 4096 }
         ensures { OnOk result (string_bytes text.new ≡ string_bytes text.old ++ form.message ctx.now place len octets.now fault (outcome_value outcome.now)) };
+
+    /// Adds the text of a ROUTE-REFRESH.
+    fn put_request(
+        &self,
+        text: &mut String,
+        place: u64,
+        len: u16,
+        refresh: &RefreshView<'_>,
+    ) -> Result<(), AllocError>
+        ensures { OnOk result (string_bytes text.new ≡ string_bytes text.old ++ form.refresh place len (refresh_value refresh.now)) };
 
     /// Adds the text of the end.
     fn put_last(&self, text: &mut String, end: End) -> Result<(), AllocError>
@@ -59,6 +72,16 @@ impl FieldForm for Lines {
         put_explained(alloc, text, ctx, place, len, octets, fault, outcome)
     }
 
+    fn put_request(
+        &self,
+        text: &mut String,
+        place: u64,
+        len: u16,
+        refresh: &RefreshView<'_>,
+    ) -> Result<(), AllocError> {
+        put_refresh(text, place, len, refresh)
+    }
+
     fn put_last(&self, text: &mut String, end: End) -> Result<(), AllocError> {
         put_end(text, end)
     }
@@ -81,6 +104,16 @@ impl FieldForm for Json {
         outcome: &OutcomeView<'_>,
     ) -> Result<(), AllocError> {
         put_explained_json(alloc, text, ctx, place, len, octets, fault, outcome)
+    }
+
+    fn put_request(
+        &self,
+        text: &mut String,
+        place: u64,
+        len: u16,
+        refresh: &RefreshView<'_>,
+    ) -> Result<(), AllocError> {
+        put_refresh_json(text, place, len, refresh)
     }
 
     fn put_last(&self, text: &mut String, end: End) -> Result<(), AllocError> {

@@ -1,17 +1,18 @@
 //! The engine `to_hex`.
 
-ghost use Rattle.std.specs.Prelude.{◌≡◌, ◌+◌, ◌≤◌, ◌++◌, false, length, OnOk};
+ghost use Rattle.std.specs.Prelude.{◌≡◌, ◌+◌, ◌≤◌, ◌++◌, ◌∷◌, [], false, length, OnOk};
 ghost use Rattle.bgp_engine.specs.Below.{encode_lower, IsLength, message_in};
 ghost use Rattle.bgp_engine.specs.Run.{Answers, io};
-ghost use Rattle.bgp_engine.specs.ToHex.{Hexed, hex_line, fault_line, rest_line};
+ghost use Rattle.bgp_engine.specs.ToHex.{Hexed, HexedWith, hex_line, refused_line, rest_line};
 
 use crate::class::Class;
 use crate::fault::ToolFault;
 use crate::page::Page;
 use crate::tally::Tally;
-use crate::walk::walk_stream;
-use bgp_frame::{Frame, HeadFault, head};
-use bgp_open::Context;
+use crate::walk::{walk_stream, walk_under};
+use bgp_frame::{Frame, HeadFault, Notification, head};
+use bgp_refresh::{RefreshView, refresh_header};
+use bgp_terms::{Refreshes, WideTerms};
 use bgp_text::notification_text;
 use hex::encode_to_slice;
 use std::alloc::{AllocError, Global};
@@ -28,21 +29,30 @@ fn put_digits(text: &mut Vec<u8>, octets: &[u8]) -> Result<(), AllocError>
     Ok(())
 }
 
+// A header and a body as a line of digits.
+fn put_line(text: &mut Vec<u8>, header: &[u8], body: &[u8]) -> Result<(), AllocError>
+    requires header { length header.now ≤ 4096 }
+    requires body { length body.now ≤ 4096 }
+    ensures { OnOk result (text.new.items ≡ text.old.items ++ (encode_lower (header.now ++ body.now) ++ 10 ∷ [])) }
+{
+    put_digits(text, header)?;
+    put_digits(text, body)?;
+    text.extend_from_slice(b"\n")
+}
+
 // A whole message as digits.
 fn put_message(text: &mut Vec<u8>, frame: Frame<'_>) -> Result<(), AllocError>
     requires { IsLength frame.kind (19 + length frame.body.now) }
     ensures { OnOk result (text.new.items ≡ text.old.items ++ hex_line (message_in frame.entry)) }
 {
-    put_digits(text, &head(frame.kind, frame.body.len() as u16))?;
-    put_digits(text, frame.body)?;
-    text.extend_from_slice(b"\n")
+    put_line(text, &head(frame.kind, frame.body.len() as u16), frame.body)
 }
 
-// A header's fault.
-fn put_fault(alloc: Global, text: &mut Vec<u8>, fault: HeadFault) -> Result<(), AllocError>
-    ensures { OnOk result (text.new.items ≡ text.old.items ++ fault_line fault) }
+// The NOTIFICATION that answers a header or a message.
+fn put_refused(alloc: Global, text: &mut Vec<u8>, why: &Notification) -> Result<(), AllocError>
+    ensures { OnOk result (text.new.items ≡ text.old.items ++ refused_line why.now) }
 {
-    let told = notification_text(alloc, &fault.notification())?;
+    let told = notification_text(alloc, why)?;
     text.extend_from_slice(b"fault ")?;
     text.extend_from_slice(told.as_bytes())?;
     text.extend_from_slice(b"\n")
@@ -69,6 +79,7 @@ struct HexPage {
 }
 
 impl Page for HexPage {
+    ghost use Rattle.std.specs.Prelude.{refl};
     ghost use Rattle.std.specs.Prelude.{true};
     ghost use Rattle.bgp_engine.specs.ToHex.{Framed, hex_rules};
     ghost use Rattle.bgp_engine.specs.steps.Pages.{plain};
@@ -83,7 +94,9 @@ impl Page for HexPage {
 
     ghost plan = { λ _ _. plain hex_rules };
 
-    fn agree(&mut self, _ctx: &Context) -> bool {
+    ghost plainly = { λ _. refl };
+
+    fn agree(&mut self, _terms: &WideTerms) -> bool {
         true
     }
 
@@ -97,7 +110,27 @@ impl Page for HexPage {
     }
 
     fn fault(&mut self, _place: u64, _header: &[u8], fault: HeadFault) -> Result<(), AllocError> {
-        put_fault(self.alloc, &mut self.text, fault)
+        put_refused(self.alloc, &mut self.text, &fault.notification())
+    }
+
+    fn refresh(
+        &mut self,
+        _place: u64,
+        len: u16,
+        body: &[u8],
+        _refresh: &RefreshView<'_>,
+    ) -> Result<(), AllocError> {
+        put_line(&mut self.text, &refresh_header(len), body)
+    }
+
+    fn refuse(
+        &mut self,
+        _place: u64,
+        _len: u16,
+        _body: &[u8],
+        why: &Notification,
+    ) -> Result<(), AllocError> {
+        put_refused(self.alloc, &mut self.text, why)
     }
 
     fn last(&mut self, _tally: &Tally) -> Result<(), AllocError> {
@@ -153,4 +186,23 @@ pub fn to_hex_within<R: Read, W: Write>(
         text: Vec::new(alloc),
     };
     walk_stream(turns, false, page, input, output)
+}
+
+/// [`to_hex`] of a stream in which ROUTE-REFRESH may be a message (RFC 2918), as the reader accepts it.
+///
+/// # Errors
+/// As `to_hex`.
+pub fn to_hex_with<R: Read, W: Write>(
+    alloc: Global,
+    refreshes: Refreshes,
+    input: &mut R,
+    output: &mut W,
+) -> Result<Tally, ToolFault>
+    ensures { Answers (HexedWith refreshes) false (io R.remaining input.old input.new W.contents output.old output.new) result }
+{
+    let page = HexPage {
+        alloc,
+        text: Vec::new(alloc),
+    };
+    walk_under(u32::MAX, false, page, refreshes, input, output)
 }

@@ -22,6 +22,7 @@ mod opens;
 mod output;
 mod page;
 mod printing;
+mod refreshing;
 mod running;
 mod shown;
 mod shown_json;
@@ -30,18 +31,22 @@ mod tally;
 mod walk;
 
 pub use bgp_frame::End;
-pub use checked::{check, check_within};
-pub use cleaning::{clean_by_opens, clean_by_opens_within, clean_stream, clean_within};
+pub use checked::{check, check_under, check_within};
+pub use cleaning::{
+    clean_by_opens, clean_by_opens_within, clean_stream, clean_under, clean_within,
+};
 pub use copied::{from_hex, from_hex_within};
 pub use fault::{NoContext, Stop, ToolFault};
-pub use hexed::{to_hex, to_hex_within};
-pub use narrowing::{narrow_stream, narrow_within};
+pub use hexed::{to_hex, to_hex_with, to_hex_within};
+pub use narrowing::{narrow_stream, narrow_under, narrow_within};
 pub use opens::{
     check_by_opens, check_by_opens_within, narrow_by_opens, narrow_by_opens_within, show_by_opens,
     show_by_opens_within, show_json_by_opens, show_json_by_opens_within,
 };
 pub use output::put;
-pub use printing::{Style, print, print_by_opens, print_by_opens_within, print_within};
+pub use printing::{
+    Style, print, print_by_opens, print_by_opens_within, print_under, print_within,
+};
 pub use shown::{show, show_within};
 pub use shown_json::{show_json, show_json_within};
 pub use tally::{Tally, status};

@@ -1,21 +1,24 @@
 //! The engine `narrow_stream`.
 
-ghost use Rattle.std.specs.Prelude.{◌≡◌, ◌+◌, ◌≤◌, ◌++◌, true, false, length, None, Some, IfOk, OnOk};
+ghost use Rattle.std.specs.Prelude.{◌≡◌, ◌+◌, ◌++◌, true, false, length, IfOk, OnOk};
 ghost use Rattle.bgp_engine.specs.Below.{octets_of, IsLength, message_in};
 ghost use Rattle.bgp_engine.specs.Below.{out_of, narrowed_update, CanBeTold, update_value, with_as4};
 ghost use Rattle.bgp_msg.specs.declared.message.Message.TheVariants as message;
 ghost use Rattle.bgp_engine.specs.steps.PageSteps.{WritesNarrow};
-ghost use Rattle.bgp_engine.specs.Narrow.{Narrowed, written_in, narrowed_outcome, narrow_answer};
+ghost use Rattle.bgp_engine.specs.Below.{wide_terms};
+ghost use Rattle.bgp_engine.specs.Narrow.{Narrowed, NarrowedUnder, written_in, narrowed_outcome};
 ghost use Rattle.bgp_engine.specs.Run.{Answers, io};
 
 use crate::class::Class;
 use crate::fault::ToolFault;
 use crate::page::Page;
 use crate::tally::Tally;
-use crate::walk::walk_stream;
-use bgp_frame::{End, Frame, HeadFault, head};
+use crate::walk::{walk_stream, walk_under};
+use bgp_frame::{End, Frame, HeadFault, Notification, head};
 use bgp_msg::{OutcomeView, encode_narrowed, view_frame};
 use bgp_open::Context;
+use bgp_refresh::{RefreshView, refresh_header};
+use bgp_terms::WideTerms;
 use bgp_update::{NarrowFault, UpdateView};
 use bgp_wire::are_octets;
 use std::alloc::{AllocError, Global};
@@ -83,9 +86,10 @@ pub(crate) struct NarrowPage {
 }
 
 impl Page for NarrowPage {
-    ghost use Rattle.bgp_engine.specs.Below.{ℕ, List, Option, unwrap_or};
+    ghost use Rattle.std.specs.Prelude.{refl};
+    ghost use Rattle.bgp_engine.specs.Below.{ℕ, List, Option};
     ghost use Rattle.bgp_engine.specs.Narrow.{narrow_rules};
-    ghost use Rattle.bgp_engine.specs.steps.Pages.{plain};
+    ghost use Rattle.bgp_engine.specs.steps.Pages.{context_or, plain};
 
     ghost Outcome = { Option (List ℕ) };
 
@@ -93,15 +97,17 @@ impl Page for NarrowPage {
 
     ghost told = { λ page. page.octets.items };
 
-    ghost fits = { λ ctx. ctx.as4 };
+    ghost fits = { λ terms. terms.context.as4 };
 
-    ghost plan = { λ page ctx. plain (narrow_rules (unwrap_or ctx page.ctx)) };
+    ghost plan = { λ page terms. plain (narrow_rules (context_or page.ctx terms)) };
 
-    fn agree(&mut self, ctx: &Context) -> bool {
-        if !ctx.as4 {
+    ghost plainly = { λ _. refl };
+
+    fn agree(&mut self, terms: &WideTerms) -> bool {
+        if !terms.context.as4 {
             return false;
         }
-        self.ctx = *ctx;
+        self.ctx = terms.context;
         true
     }
 
@@ -114,6 +120,27 @@ impl Page for NarrowPage {
     }
 
     fn fault(&mut self, _place: u64, _header: &[u8], _fault: HeadFault) -> Result<(), AllocError> {
+        Ok(())
+    }
+
+    fn refresh(
+        &mut self,
+        _place: u64,
+        len: u16,
+        body: &[u8],
+        _refresh: &RefreshView<'_>,
+    ) -> Result<(), AllocError> {
+        self.octets.extend_from_slice(&refresh_header(len))?;
+        self.octets.extend_from_slice(body)
+    }
+
+    fn refuse(
+        &mut self,
+        _place: u64,
+        _len: u16,
+        _body: &[u8],
+        _why: &Notification,
+    ) -> Result<(), AllocError> {
         Ok(())
     }
 
@@ -180,4 +207,25 @@ pub fn narrow_within<R: Read, W: Write>(
         octets: Vec::new(alloc),
     };
     walk_stream(turns, false, page, input, output)
+}
+
+/// [`narrow_stream`] by what was negotiated: a ROUTE-REFRESH is passed on unchanged where the reader offers it.
+///
+/// # Errors
+/// As `narrow_stream`.
+pub fn narrow_under<R: Read, W: Write>(
+    alloc: Global,
+    terms: &WideTerms,
+    input: &mut R,
+    output: &mut W,
+) -> Result<Tally, ToolFault>
+    requires { (wide_terms terms.now).context.as4 ≡ true }
+    ensures { Answers (NarrowedUnder (wide_terms terms.now)) false (io R.remaining input.old input.new W.contents output.old output.new) result }
+{
+    let page = NarrowPage {
+        alloc,
+        ctx: terms.context,
+        octets: Vec::new(alloc),
+    };
+    walk_under(u32::MAX, false, page, terms.refresh, input, output)
 }

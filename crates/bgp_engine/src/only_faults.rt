@@ -1,13 +1,15 @@
 //! Which messages are printed.
 
-ghost use Rattle.std.specs.Prelude.{◌≡◌, ◌++◌, OnOk};
-ghost use Rattle.bgp_engine.specs.Below.{string_bytes, outcome_value};
+ghost use Rattle.std.specs.Prelude.{◌≡◌};
+ghost use Rattle.bgp_engine.specs.Below.{outcome_value, refresh_value};
 ghost use Rattle.bgp_engine.specs.OnlyFaults.{is_fault, where_fault};
+ghost use Rattle.bgp_engine.specs.Refreshed.{is_ignored};
 
 use crate::form::Form;
 use bgp_fields::Span;
 use bgp_frame::End;
 use bgp_msg::OutcomeView;
+use bgp_refresh::{RefreshMark, RefreshView};
 use std::alloc::{AllocError, Global};
 
 /// Whether an outcome isn't accepted without a note, or is a NOTIFICATION.
@@ -21,17 +23,32 @@ pub(crate) fn is_fault(outcome: &OutcomeView<'_>) -> bool
     }
 }
 
+/// Whether a ROUTE-REFRESH has no effect.
+pub(crate) fn is_ignored(refresh: &RefreshView<'_>) -> bool
+    ensures { result ≡ is_ignored (refresh_value refresh.now) }
+{
+    match refresh.mark {
+        RefreshMark::Request | RefreshMark::Begin | RefreshMark::End => false,
+        RefreshMark::Ignored(_) => true,
+    }
+}
+
 /// Which messages are printed.
 pub(crate) trait Choice {
-    ghost use Rattle.std.specs.Prelude.{Bool, ◌≡◌};
-    ghost use Rattle.bgp_engine.specs.Below.{Outcome, outcome_value};
+    ghost use Rattle.std.specs.Prelude.{◌≡◌};
+    ghost use Rattle.bgp_engine.specs.Below.{outcome_value, refresh_value};
+    ghost use Rattle.bgp_engine.specs.OnlyFaults.{Chosen};
 
-    /// Those with these outcomes.
-    ghost printed: { Outcome → Bool };
+    /// Those with these outcomes, and which ROUTE-REFRESH.
+    ghost printed: { Chosen };
 
     /// Whether one with an outcome is printed.
     fn prints(&self, outcome: &OutcomeView<'_>) -> bool
-        ensures { result ≡ printed (outcome_value outcome.now) };
+        ensures { result ≡ printed.outcome (outcome_value outcome.now) };
+
+    /// Whether a ROUTE-REFRESH is.
+    fn prints_refresh(&self, refresh: &RefreshView<'_>) -> bool
+        ensures { result ≡ printed.refresh (refresh_value refresh.now) };
 }
 
 /// All of them.
@@ -39,26 +56,36 @@ pub(crate) trait Choice {
 pub(crate) struct Every;
 
 impl Choice for Every {
-    ghost use Rattle.std.specs.Prelude.{true};
+    ghost use Rattle.std.specs.Prelude.{false};
+    ghost use Rattle.bgp_engine.specs.OnlyFaults.{chosen};
 
-    ghost printed = { λ _. true };
+    ghost printed = { chosen false };
 
     fn prints(&self, _outcome: &OutcomeView<'_>) -> bool {
         true
     }
+
+    fn prints_refresh(&self, _refresh: &RefreshView<'_>) -> bool {
+        true
+    }
 }
 
-/// Those that aren't accepted without a note, and NOTIFICATIONs.
+/// Those that aren't accepted without a note, a ROUTE-REFRESH without effect, and NOTIFICATIONs.
 #[derive(Drop)]
 pub(crate) struct Faulty;
 
 impl Choice for Faulty {
-    ghost use Rattle.bgp_engine.specs.OnlyFaults.{is_fault};
+    ghost use Rattle.std.specs.Prelude.{true};
+    ghost use Rattle.bgp_engine.specs.OnlyFaults.{chosen};
 
-    ghost printed = { is_fault };
+    ghost printed = { chosen true };
 
     fn prints(&self, outcome: &OutcomeView<'_>) -> bool {
         is_fault(outcome)
+    }
+
+    fn prints_refresh(&self, refresh: &RefreshView<'_>) -> bool {
+        is_ignored(refresh)
     }
 }
 
@@ -70,8 +97,11 @@ pub(crate) struct OnlyFaults<F> {
 
 impl<F: Form> Form for OnlyFaults<F> {
     ghost use Rattle.bgp_engine.specs.OnlyFaults.{where_fault};
+    ghost use Rattle.bgp_engine.specs.Refreshed.{where_ignored};
 
     ghost shown = { where_fault F.shown };
+
+    ghost shown_refresh = { where_ignored F.shown_refresh };
 
     ghost shown_end = { F.shown_end };
 
@@ -88,6 +118,19 @@ impl<F: Form> Form for OnlyFaults<F> {
             return Ok(());
         }
         self.form.put(alloc, text, place, len, span, outcome)
+    }
+
+    fn put_refresh(
+        &self,
+        text: &mut String,
+        place: u64,
+        len: u16,
+        refresh: &RefreshView<'_>,
+    ) -> Result<(), AllocError> {
+        if !is_ignored(refresh) {
+            return Ok(());
+        }
+        self.form.put_refresh(text, place, len, refresh)
     }
 
     fn put_end(&self, text: &mut String, end: End) -> Result<(), AllocError> {

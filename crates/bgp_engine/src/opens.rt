@@ -1,6 +1,6 @@
-//! The engines that judge a stream in the context that its own OPEN and that of the other direction agree on.
+//! The engines that judge a stream by what its own OPEN and that of the other direction agree on.
 
-ghost use Rattle.std.specs.Prelude.{◌≡◌, true, false};
+ghost use Rattle.std.specs.Prelude.{true, false};
 ghost use Rattle.bgp_engine.specs.Prelude.{CheckedBy, NarrowedBy, ShownBy, ShownJsonBy, Answers, io};
 
 use crate::checked::CheckPage;

@@ -1,20 +1,22 @@
 //! What an engine writes of the messages of a stream.
 
-ghost use Rattle.std.specs.Prelude.{ℕ, Bool, true, List, Option, None, Some, ◌≡◌, ◌+◌, ◌++◌, [], length, IfOk, OnOk};
-ghost use Rattle.bgp_engine.specs.Below.{IsLength, message_in, Context};
+ghost use Rattle.std.specs.Prelude.{ℕ, Bool, true, List, Option, None, Some, Ok, Err, ◌≡◌, ◌+◌, ◌≤◌, ◌++◌, [], length, IfOk, OnOk};
+ghost use Rattle.bgp_engine.specs.Below.{Agreed, IsLength, Kind, message_in, refresh_header, refresh_value, wide_terms};
 ghost use Rattle.bgp_engine.specs.Rules.{Rules};
 ghost use Rattle.bgp_engine.specs.steps.Pages.{Plan, TakesFirst, Writes, WritesFault, IsAnswer};
 
 use crate::class::Class;
 use crate::fault::ToolFault;
 use crate::tally::Tally;
-use bgp_frame::{Frame, HeadFault};
-use bgp_open::Context;
+use bgp_frame::{Frame, HeadFault, Notification};
+use bgp_refresh::RefreshView;
+use bgp_terms::WideTerms;
 use std::alloc::AllocError;
 
 /// Judges message by message, and collects what is written of each.
 pub(crate) trait Page {
-    ghost use Rattle.bgp_engine.specs.Below.{ℕ, Bool, List, Option, Context};
+    ghost use Rattle.bgp_engine.specs.Below.{ℕ, Agreed, Bool, Kind, List, Option, plain};
+    ghost use Rattle.std.specs.Prelude.{◌≡◌};
     ghost use Rattle.bgp_engine.specs.Rules.{Rules};
     ghost use Rattle.bgp_engine.specs.steps.Pages.{Plan};
 
@@ -24,15 +26,15 @@ pub(crate) trait Page {
     ghost rules: { Self → Rules Outcome };
     /// What isn't written yet.
     ghost told: { Self → List ℕ };
-    /// Whether it can be written in a context.
-    ghost fits: { Context → Bool };
-    /// The rules by which it is written, the first message too: in a context, or as it is.
-    ghost plan: { Self → Option Context → Plan Outcome };
+    /// Whether it can be written by what both OPENs agree on.
+    ghost fits: { Agreed → Bool };
+    /// The rules by which it is written, the first message too: by what both OPENs agree on, or as it is.
+    ghost plan: { Self → Option Agreed → Plan Kind Outcome };
 
-    /// Sets the context of the stream, before its first message. Answers whether the page can be written in it.
-    fn agree(&mut self, ctx: &Context) -> bool
-        ensures fits { result ≡ fits ctx.now }
-        ensures plan { result ≡ true → plan self.new None ≡ plan self.old (Some ctx.now) }
+    /// Sets what was agreed on for the stream, before its first message. Answers whether the page can be written so.
+    fn agree(&mut self, terms: &WideTerms) -> bool
+        ensures fits { result ≡ fits (wide_terms terms.now) }
+        ensures plan { result ≡ true → plan self.new None ≡ plan self.old (Some (wide_terms terms.now)) }
         ensures told { told self.new ≡ told self.old };
 
     /// Handles the first message of the stream by a separate rule, where there is one. Answers whether it did.
@@ -50,6 +52,34 @@ pub(crate) trait Page {
     fn fault(&mut self, place: u64, header: &[u8], fault: HeadFault) -> Result<(), AllocError>
         requires { length header.now ≡ 19 }
         ensures writes { OnOk result (WritesFault (rules self.old) (told self.old) (told self.new) place header.now fault) }
+        ensures rules { rules self.new ≡ rules self.old };
+
+    /// Collects what is written of a ROUTE-REFRESH of this length and with this body, at an offset of the stream.
+    fn refresh(
+        &mut self,
+        place: u64,
+        len: u16,
+        body: &[u8],
+        refresh: &RefreshView<'_>,
+    ) -> Result<(), AllocError>
+        requires size { len ≡ 19 + length body.now }
+        requires short { length body.now ≤ 4077 }
+        ensures writes { OnOk result (told self.new ≡ told self.old
+            ++ (rules self.old).refresh place len (refresh_header (19 + length body.now) ++ body.now) (Ok (refresh_value refresh.now))) }
+        ensures rules { rules self.new ≡ rules self.old };
+
+    /// Collects what is written of one that is answered by this NOTIFICATION.
+    fn refuse(
+        &mut self,
+        place: u64,
+        len: u16,
+        body: &[u8],
+        why: &Notification,
+    ) -> Result<(), AllocError>
+        requires size { len ≡ 19 + length body.now }
+        requires short { length body.now ≤ 4077 }
+        ensures writes { OnOk result (told self.new ≡ told self.old
+            ++ (rules self.old).refresh place len (refresh_header (19 + length body.now) ++ body.now) (Err why.now)) }
         ensures rules { rules self.new ≡ rules self.old };
 
     /// Collects what is written last, by the counts and the end.
@@ -76,4 +106,7 @@ pub(crate) trait Page {
         ensures told { told self.new ≡ [] }
         ensures rules { rules self.new ≡ rules self.old }
         ensures plan { plan self.new ≡ plan self.old };
+
+    /// It judges messages by the types of RFC 4271.
+    ghost plainly: { (page : Self) → (rules page).types ≡ plain };
 }

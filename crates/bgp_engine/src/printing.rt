@@ -1,22 +1,26 @@
 //! What is printed of a stream, in each style.
 
 ghost use Rattle.std.specs.Prelude.{true};
-ghost use Rattle.bgp_engine.specs.Prelude.{Printed, PrintedBy, ReportedBy, Answers, io};
-ghost use Rattle.bgp_engine.specs.Explain.{Explained};
+ghost use Rattle.bgp_engine.specs.Prelude.{Printed, PrintedBy, PrintedUnder, ReportedBy, Answers, io};
+ghost use Rattle.bgp_engine.specs.Below.{wide_terms};
+ghost use Rattle.bgp_engine.specs.Explain.{Explained, ExplainedUnder};
 ghost use Rattle.bgp_engine.specs.OnlyFaults.{chosen};
+ghost use Rattle.bgp_engine.specs.Prelude.{IsReport, no_tally, wide_rules};
+ghost use Rattle.bgp_engine.specs.Show.{printed_rules};
 
 use crate::explaining::ExplainPage;
 use crate::fault::ToolFault;
 use crate::field_form::FieldForm;
-use crate::form::{Json, Lines};
+use crate::form::{Form, Json, Lines};
 use crate::only_faults::{Every, Faulty, OnlyFaults};
 use crate::opening::open_stream;
 use crate::opens::{UNKNOWN, show_by_opens_within, show_json_by_opens_within};
 use crate::shown::{ShowPage, show_within};
 use crate::shown_json::show_json_within;
 use crate::tally::Tally;
-use crate::walk::walk_stream;
+use crate::walk::{walk_stream, walk_under};
 use bgp_open::Context;
+use bgp_terms::WideTerms;
 use std::alloc::Global;
 use std::io::{Read, Write};
 
@@ -54,7 +58,7 @@ fn explain_within<F: FieldForm + Drop, R: Read, W: Write>(
     walk_stream(turns, hex, page, input, output)
 }
 
-// As `explain_within`, in the context that both OPENs agree on.
+// As `explain_within`, by what both OPENs agree on.
 fn explain_by_opens<F: FieldForm + Drop, R: Read, W: Write>(
     alloc: Global,
     turns: u32,
@@ -65,7 +69,7 @@ fn explain_by_opens<F: FieldForm + Drop, R: Read, W: Write>(
     input: &mut R,
     output: &mut W,
 ) -> Result<Tally, ToolFault>
-    ensures { Answers (ReportedBy (λ ctx. true) theirs.now (Explained F.form (chosen only_faults))) hex (io R.remaining input.old input.new W.contents output.old output.new) result }
+    ensures { Answers (ReportedBy (λ terms. true) theirs.now (ExplainedUnder F.form (chosen only_faults))) hex (io R.remaining input.old input.new W.contents output.old output.new) result }
 {
     if only_faults {
         let page = ExplainPage::new(alloc, UNKNOWN, form, Faulty);
@@ -126,6 +130,75 @@ pub fn print_within<R: Read, W: Write>(
         }
         (Style::ExplainedJson, _) => {
             explain_within(alloc, turns, Json, only_faults, ctx, hex, input, output)
+        }
+    }
+}
+
+// As `explain_within`, by what was negotiated.
+fn explain_under<F: FieldForm + Drop, R: Read, W: Write>(
+    alloc: Global,
+    form: F,
+    only_faults: bool,
+    terms: &WideTerms,
+    hex: bool,
+    input: &mut R,
+    output: &mut W,
+) -> Result<Tally, ToolFault>
+    ensures { Answers (ExplainedUnder F.form (chosen only_faults) (wide_terms terms.now)) hex (io R.remaining input.old input.new W.contents output.old output.new) result }
+{
+    if only_faults {
+        let page = ExplainPage::new(alloc, terms.context, form, Faulty);
+        return walk_under(u32::MAX, hex, page, terms.refresh, input, output);
+    }
+    let page = ExplainPage::new(alloc, terms.context, form, Every);
+    walk_under(u32::MAX, hex, page, terms.refresh, input, output)
+}
+
+// As `print`, by what was negotiated, in a form of `show`.
+fn show_under<F: Form + Drop, R: Read, W: Write>(
+    alloc: Global,
+    form: F,
+    terms: &WideTerms,
+    hex: bool,
+    input: &mut R,
+    output: &mut W,
+) -> Result<Tally, ToolFault>
+    ensures { Answers (IsReport (wide_rules (wide_terms terms.now).refresh (printed_rules F.shown F.shown_refresh F.shown_end (wide_terms terms.now).context)) 0 no_tally) hex (io R.remaining input.old input.new W.contents output.old output.new) result }
+{
+    let page = ShowPage::new(alloc, terms.context, form);
+    walk_under(u32::MAX, hex, page, terms.refresh, input, output)
+}
+
+/// [`print`] by what was negotiated: a ROUTE-REFRESH is a message where the reader offers it (RFC 2918; RFC 7313). What else is agreed on beyond the
+/// context has no effect.
+///
+/// # Errors
+/// As `print`.
+pub fn print_under<R: Read, W: Write>(
+    alloc: Global,
+    style: Style,
+    only_faults: bool,
+    terms: &WideTerms,
+    hex: bool,
+    input: &mut R,
+    output: &mut W,
+) -> Result<Tally, ToolFault>
+    ensures { Answers (PrintedUnder style only_faults (wide_terms terms.now)) hex (io R.remaining input.old input.new W.contents output.old output.new) result }
+{
+    match (style, only_faults) {
+        (Style::Lines, false) => show_under(alloc, Lines, terms, hex, input, output),
+        (Style::Json, false) => show_under(alloc, Json, terms, hex, input, output),
+        (Style::Lines, true) => {
+            show_under(alloc, OnlyFaults { form: Lines }, terms, hex, input, output)
+        }
+        (Style::Json, true) => {
+            show_under(alloc, OnlyFaults { form: Json }, terms, hex, input, output)
+        }
+        (Style::Explained, _) => {
+            explain_under(alloc, Lines, only_faults, terms, hex, input, output)
+        }
+        (Style::ExplainedJson, _) => {
+            explain_under(alloc, Json, only_faults, terms, hex, input, output)
         }
     }
 }

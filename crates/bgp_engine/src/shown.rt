@@ -12,12 +12,15 @@ use crate::fault::ToolFault;
 use crate::form::{Form, Lines};
 use crate::heard::span_of;
 use crate::page::Page;
+use crate::refreshing::{refresh_span, view_of};
 use crate::tally::Tally;
 use crate::walk::walk_stream;
 use bgp_fields::header_span;
-use bgp_frame::{Frame, HeadFault};
+use bgp_frame::{Frame, HeadFault, Notification};
 use bgp_msg::{OutcomeView, view_frame};
 use bgp_open::Context;
+use bgp_refresh::RefreshView;
+use bgp_terms::WideTerms;
 use bgp_update::UpdateView;
 use std::alloc::{AllocError, Global};
 use std::io::{Read, Write};
@@ -95,23 +98,26 @@ fn put_fault<F: Form>(
 }
 
 impl<F: Form> Page for ShowPage<F> {
-    ghost use Rattle.bgp_engine.specs.Below.{true, string_bytes, unwrap_or};
+    ghost use Rattle.std.specs.Prelude.{refl};
+    ghost use Rattle.bgp_engine.specs.Below.{true, string_bytes};
     ghost use Rattle.bgp_engine.specs.Heard.{Heard};
     ghost use Rattle.bgp_engine.specs.Show.{printed_rules};
-    ghost use Rattle.bgp_engine.specs.steps.Pages.{plain};
+    ghost use Rattle.bgp_engine.specs.steps.Pages.{context_or, plain};
 
     ghost Outcome = { Heard };
 
-    ghost rules = { λ page. printed_rules F.shown F.shown_end page.ctx };
+    ghost rules = { λ page. printed_rules F.shown F.shown_refresh F.shown_end page.ctx };
 
     ghost told = { λ page. string_bytes page.text };
 
     ghost fits = { λ _. true };
 
-    ghost plan = { λ page ctx. plain (printed_rules F.shown F.shown_end (unwrap_or ctx page.ctx)) };
+    ghost plan = { λ page terms. plain (printed_rules F.shown F.shown_refresh F.shown_end (context_or page.ctx terms)) };
 
-    fn agree(&mut self, ctx: &Context) -> bool {
-        self.ctx = *ctx;
+    ghost plainly = { λ _. refl };
+
+    fn agree(&mut self, terms: &WideTerms) -> bool {
+        self.ctx = terms.context;
         true
     }
 
@@ -132,6 +138,29 @@ impl<F: Form> Page for ShowPage<F> {
 
     fn fault(&mut self, place: u64, header: &[u8], fault: HeadFault) -> Result<(), AllocError> {
         put_fault(&self.form, self.alloc, &mut self.text, place, header, fault)
+    }
+
+    fn refresh(
+        &mut self,
+        place: u64,
+        len: u16,
+        _body: &[u8],
+        refresh: &RefreshView<'_>,
+    ) -> Result<(), AllocError> {
+        self.form.put_refresh(&mut self.text, place, len, refresh)
+    }
+
+    fn refuse(
+        &mut self,
+        place: u64,
+        len: u16,
+        _body: &[u8],
+        why: &Notification,
+    ) -> Result<(), AllocError> {
+        let reset = OutcomeView::Reset(view_of(why));
+        let span = refresh_span();
+        self.form
+            .put(self.alloc, &mut self.text, place, len, Some(span), &reset)
     }
 
     fn last(&mut self, tally: &Tally) -> Result<(), AllocError> {

@@ -1,7 +1,8 @@
 //! The messages of a stream that arrives block by block.
 
 ghost use Rattle.std.specs.Prelude.{◌≡◌, [], ◌++◌, take};
-ghost use Rattle.bgp_engine.specs.Below.{Pulls};
+ghost use Rattle.bgp_engine.specs.Below.{PullsIn, wide_types};
+ghost use Rattle.bgp_engine.specs.Wide.{wide_rules};
 ghost use Rattle.bgp_engine.specs.Rules.{IsReport};
 ghost use Rattle.bgp_engine.specs.Run.{Answers, io};
 ghost use Rattle.bgp_engine.specs.Tally.{no_tally};
@@ -10,9 +11,11 @@ use crate::class::Class;
 use crate::engine::Engine;
 use crate::fault::ToolFault;
 use crate::page::Page;
+use crate::refreshing::{grammar_of, put_message};
 use crate::running::run;
 use crate::tally::Tally;
-use bgp_frame::{End, Framer, Pull};
+use bgp_frame::{End, FramerOf, Pull, WideGrammar};
+use bgp_terms::Refreshes;
 use std::alloc::AllocError;
 use std::io::{Read, Write};
 
@@ -21,7 +24,9 @@ use std::io::{Read, Write};
 #[derive(Drop)]
 pub(crate) struct Walk<P> {
     pub(crate) page: P,
-    pub(crate) framer: Framer,
+    /// Which ROUTE-REFRESH the reader accepts.
+    pub(crate) refreshes: Refreshes,
+    pub(crate) framer: FramerOf<WideGrammar, 4096>,
     /// The offset in the stream of the held octets.
     place: u64,
     tally: Tally,
@@ -29,9 +34,9 @@ pub(crate) struct Walk<P> {
 }
 
 /// The octets that a look pulled: the held ones, or the first of the block where none are held.
-fn pulled<'a>(framer: &'a Framer, octets: &'a [u8], taken: usize) -> &'a [u8]
-    requires { Pulls framer.now octets.now taken }
-    ensures { result.now ≡ framer.now ++ take taken octets.now }
+fn pulled<'a>(framer: &'a FramerOf<WideGrammar, 4096>, octets: &'a [u8], taken: usize) -> &'a [u8]
+    requires { PullsIn (wide_types framer.now.grammar) framer.now.octets octets.now taken }
+    ensures { result.now ≡ framer.now.octets ++ take taken octets.now }
 {
     if taken == 0 {
         framer.octets()
@@ -45,19 +50,24 @@ impl<P: Page> Walk<P> {
     ghost use Rattle.bgp_engine.specs.Below.{AreOctets};
     ghost use Rattle.bgp_frame.specs.declared.end.End.TheVariants as end;
     ghost use Rattle.bgp_engine.specs.declared.class.Class.TheVariants as class;
+    ghost use Rattle.bgp_engine.specs.Refreshed.{grammar_of};
     ghost use Rattle.bgp_engine.specs.Rules.{counted};
     ghost use Rattle.bgp_engine.specs.Tally.{no_tally};
     ghost use Rattle.bgp_engine.specs.steps.Pages.{is_last};
-    ghost use Rattle.bgp_engine.specs.steps.Walking.{Hears, IsCounting, IsJudged, IsReady, all_counts, reports_of, reset_if, walk_of};
+    ghost use Rattle.bgp_engine.specs.steps.Walking.{Hears, IsCounting, IsFresh, IsJudged, IsReady, IsTyped, all_counts, reports_of, reset_if, walk_of};
     ghost use Rattle.bgp_engine.specs.steps.Engine.{Closes};
 
     /// A walk at the beginning of a stream.
-    pub(crate) fn new(page: P) -> Walk<P>
-        ensures { result ≡ record { page = page; framer = []; place = 0; tally = no_tally; ended = None } }
+    pub(crate) fn new(page: P, refreshes: Refreshes) -> Walk<P>
+        ensures fresh { IsFresh (walk_of P.rules result) }
+        ensures typed { IsTyped (walk_of P.rules result) }
+        ensures page { result.page ≡ page }
+        ensures refreshes { result.refreshes ≡ refreshes }
     {
         Walk {
             page,
-            framer: Framer::new(),
+            refreshes,
+            framer: FramerOf::empty(grammar_of(refreshes)),
             place: 0,
             tally: Tally {
                 messages: 0,
@@ -68,6 +78,14 @@ impl<P: Page> Walk<P> {
             },
             ended: None,
         }
+    }
+
+    /// Accepts these ROUTE-REFRESH from now on. Nothing is held then.
+    pub(crate) fn accept(&mut self, refreshes: Refreshes)
+        ensures { self.new ≡ record self.old { refreshes = refreshes; framer = record { grammar = grammar_of refreshes; octets = [] } } }
+    {
+        self.refreshes = refreshes;
+        self.framer = FramerOf::empty(grammar_of(refreshes));
     }
 
     // Counts a message of length `len`.
@@ -118,7 +136,7 @@ impl<P: Page> Walk<P> {
             Pull::Feed => Ok(None),
             Pull::Frame(taken, frame) => {
                 let len = frame.len;
-                let class = self.page.message(self.place, frame)?;
+                let class = put_message(&mut self.page, self.refreshes, self.place, frame)?;
                 self.count(len, class);
                 self.framer.clear();
                 Ok(Some(taken))
@@ -138,7 +156,7 @@ impl<P: Page> Walk<P> {
     fn step(&mut self, octets: &[u8]) -> Result<usize, AllocError>
         requires unended { self.old.ended ≡ None }
         requires ready { IsReady (walk_of P.rules self.old) }
-        requires room { self.old.place + length self.old.framer + length octets.now ≤ 2 ^ 60 }
+        requires room { self.old.place + length self.old.framer.octets + length octets.now ≤ 2 ^ 60 }
         ensures hears { IfOk result (λ n. Hears
             (walk_of P.rules self.old) (walk_of P.rules self.new)
             (P.told self.old.page) (P.told self.new.page) octets.now n) }
@@ -182,10 +200,12 @@ impl<P: Page> Walk<P> {
 }
 
 impl<P: Page> Engine for Walk<P> {
-    ghost use Rattle.std.specs.Prelude.{◌≡◌, ◌+◌, ◌≤◌, [], None, length, IfOk, OnOk, OnErr};
+    ghost use Rattle.std.specs.Prelude.{◌≡◌, ◌⊎◌, ◌+◌, ◌≤◌, [], None, length, IfOk};
+    ghost use Rattle.bgp_frame.specs.declared.kind.WideKind.{WideKind};
+    ghost use Rattle.bgp_engine.specs.Refreshed.{Refreshed};
     ghost use Rattle.bgp_engine.specs.steps.Walking.{Walking, IsReady, reports_of, room_of, walk_of};
 
-    ghost State = { Walking P.Outcome };
+    ghost State = { Walking WideKind (P.Outcome ⊎ Refreshed) };
 
     ghost state = { λ w. walk_of P.rules w };
 
@@ -228,7 +248,23 @@ impl<P: Page> Engine for Walk<P> {
     }
 }
 
-/// Runs a page over the messages of a stream.
+/// Runs a page over the messages of a stream, in which ROUTE-REFRESH may be a message.
+pub(crate) fn walk_under<P: Page + Drop, R: Read, W: Write>(
+    turns: u32,
+    hex: bool,
+    page: P,
+    refreshes: Refreshes,
+    input: &mut R,
+    output: &mut W,
+) -> Result<Tally, ToolFault>
+    requires { P.told page ≡ [] }
+    ensures { Answers (IsReport (wide_rules refreshes (P.rules page)) 0 no_tally) hex (io R.remaining input.old input.new W.contents output.old output.new) result }
+{
+    let mut walk = Walk::new(page, refreshes);
+    run(turns, hex, &mut walk, input, output)
+}
+
+/// Runs a page over the messages of a stream: those of RFC 4271.
 pub(crate) fn walk_stream<P: Page + Drop, R: Read, W: Write>(
     turns: u32,
     hex: bool,
@@ -239,6 +275,5 @@ pub(crate) fn walk_stream<P: Page + Drop, R: Read, W: Write>(
     requires { P.told page ≡ [] }
     ensures { Answers (IsReport (P.rules page) 0 no_tally) hex (io R.remaining input.old input.new W.contents output.old output.new) result }
 {
-    let mut walk = Walk::new(page);
-    run(turns, hex, &mut walk, input, output)
+    walk_under(turns, hex, page, Refreshes::None, input, output)
 }

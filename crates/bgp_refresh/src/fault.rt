@@ -4,7 +4,7 @@ ghost use Rattle.std.specs.Prelude.{◌≡◌, ◌≤◌, ◌+◌, ◌++◌, len
 ghost use Rattle.bgp_refresh.specs.Fault.{refresh_notification};
 ghost use Rattle.bgp_refresh.specs.Refresh.{refresh_header};
 
-use crate::writing::header;
+use crate::writing::refresh_header;
 use arrayvec::ArrayVec;
 use bgp_frame::Notification;
 use bgp_numbers::error;
@@ -18,7 +18,7 @@ fn front_of(body: &[u8]) -> ArrayVec<u8, 4075>
     ensures { result.items ≡ refresh_header (19 + length body.now) ++ take (min (length body.now) 4056) body.now }
 {
     let mut octets = ArrayVec::new();
-    let _ = octets.try_extend_from_slice(&header((19 + body.len()) as u16));
+    let _ = octets.try_extend_from_slice(&refresh_header((19 + body.len()) as u16));
     let _ = octets.try_extend_from_slice(&body[..body.len().min(BODY_ROOM)]);
     octets
 }

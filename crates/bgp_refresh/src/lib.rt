@@ -10,7 +10,7 @@ mod writing;
 pub use fault::RefreshFault;
 pub use mark::RefreshMark;
 pub use view::{RefreshView, view_refresh};
-pub use writing::write_refresh;
+pub use writing::{refresh_header, write_refresh};
 
 #[cfg(test)]
 mod tests;

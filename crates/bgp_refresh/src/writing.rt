@@ -7,7 +7,7 @@ use crate::mark::RefreshMark;
 use bgp_numbers::message;
 
 /// The header of a ROUTE-REFRESH of this length (RFC 4271, section 4.1).
-pub(crate) fn header(length: u16) -> [u8; 19]
+pub fn refresh_header(length: u16) -> [u8; 19]
     ensures { result ≡ refresh_header length }
 {
     let mut octets = [255; 19];

@@ -35,6 +35,27 @@ pub struct WideTerms {
     pub member: Member,
 }
 
+impl WideTerms {
+    ghost use Rattle.bgp_terms.specs.Terms.{plain_terms};
+
+    /// A context with ROUTE-REFRESH as the reader accepts it, and nothing else beyond it.
+    pub fn with_refresh(context: Context, refresh: Refreshes) -> WideTerms
+        ensures { wide_terms result ≡ record (plain_terms context) { refresh = refresh } }
+    {
+        WideTerms {
+            context,
+            refresh,
+            long: false,
+            long_back: false,
+            paths4: false,
+            paths6: false,
+            hop6: false,
+            families: Families::none(),
+            member: Member::None,
+        }
+    }
+}
+
 impl Terms for WideTerms {
     ghost use Rattle.bgp_terms.specs.Terms.{wide_terms};
 

@@ -5,7 +5,7 @@ pub use Rattle.std.specs.Fmt.{decimal, digit_glyph}
 pub use Rattle.std.specs.List.{flat_map, list_all}
 pub use Rattle.std.specs.Str.{IsAscii, chars, is_utf8}
 pub use Rattle.std.specs.String.{string_bytes}
-pub use Rattle.bgp_numbers.specs.declared.error.TheConstants.{ADMINISTRATIVE_RESET, ADMINISTRATIVE_SHUTDOWN, CEASE, MESSAGE_HEADER, OPEN_MESSAGE}
+pub use Rattle.bgp_numbers.specs.declared.error.TheConstants.{ADMINISTRATIVE_RESET, ADMINISTRATIVE_SHUTDOWN, CEASE, MESSAGE_HEADER, OPEN_MESSAGE, ROUTE_REFRESH_MESSAGE}
 pub use Rattle.bgp_names.specs.Attributes.{attribute_name, origin_name, segment_name}
 pub use Rattle.bgp_names.specs.Capabilities.{capability_name, parameter_name}
 pub use Rattle.bgp_names.specs.Errors.{error_name, subcode_name}
@@ -20,6 +20,8 @@ pub use Rattle.bgp_open.specs.declared.capability.Capability.{Capability}
 pub use Rattle.bgp_open.specs.declared.capability.Capability.TheVariants.{As4, Multi, Other}
 pub use Rattle.bgp_open.specs.declared.context.Context.{Context}
 pub use Rattle.bgp_open.specs.declared.message.Open.{Open}
+pub use Rattle.bgp_refresh.specs.Prelude.{Refresh, refresh_notification, refresh_value, subtype_of}
+pub use Rattle.bgp_refresh.specs.declared.mark.RefreshMark.{RefreshMark}
 pub use Rattle.bgp_attr.specs.Prelude.{attr_value, communities_left, is_extended, is_optional, is_partial, is_transitive, opaque_value, path_value, reach_value, segment_value, segments_left, triples_left, unreach_value}
 pub use Rattle.bgp_attr.specs.declared.aggregator.Aggregator.{Aggregator}
 pub use Rattle.bgp_attr.specs.declared.attr.Attr.{Attr}

@@ -22,6 +22,7 @@ pub mod NoteLines
 pub mod OpenLines
 pub mod UpdateLines
 pub mod Outcome
+pub mod RefreshLine
 pub mod Explained
 pub mod Json
 pub mod JsonAddress
@@ -32,6 +33,7 @@ pub mod JsonNotes
 pub mod JsonOpen
 pub mod JsonUpdate
 pub mod JsonOutcome
+pub mod JsonRefresh
 pub mod JsonFields
 pub mod JsonEnd
 pub mod steps

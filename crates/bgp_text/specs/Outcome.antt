@@ -1,6 +1,6 @@
 -- The lines of an outcome.
 use Rattle.std.specs.Prelude.{ℕ, ◌==◌, List, [], ◌∷◌, ◌++◌, codes, if◌then◌else◌}
-use Rattle.bgp_text.specs.Below.{flat_map, decimal, MESSAGE_HEADER, OPEN_MESSAGE, Notification, Note}
+use Rattle.bgp_text.specs.Below.{flat_map, decimal, MESSAGE_HEADER, OPEN_MESSAGE, ROUTE_REFRESH_MESSAGE, Notification, Note}
 use Rattle.bgp_text.specs.Below.{Routes, Message, Outcome}
 use Rattle.bgp_text.specs.Info.{notification_text}
 use Rattle.bgp_text.specs.NoteLines.{note_line}
@@ -29,13 +29,15 @@ took_lines place len m notes = message_lines place len m ++ flat_map note_line n
 abbrev pub withdraw_lines : ℕ → ℕ → Routes → List Note → List ℕ
 withdraw_lines place len routes notes = head_line place len (codes "UPDATE withdraw") ++ (routes_lines routes ++ flat_map note_line notes)
 
--- What causes a NOTIFICATION, by its code: a header, an OPEN, or else an UPDATE (RFC 4271, section 4.5). The module `laws` states that
--- no reset has another name than that of what causes it; so the lines are a function of the outcome only.
+-- What causes a NOTIFICATION, by its code: a header, an OPEN (RFC 4271, section 4.5), a ROUTE-REFRESH (RFC 7313, section 5), or else an
+-- UPDATE. The module `laws` states that no reset has another name than that of what causes it; so the lines are a function of the outcome
+-- only.
 abbrev pub reset_name : ℕ → List ℕ
 reset_name code =
     if code == MESSAGE_HEADER then codes "HEADER" else (
-    if code == OPEN_MESSAGE then codes "OPEN" else
-    codes "UPDATE")
+    if code == OPEN_MESSAGE then codes "OPEN" else (
+    if code == ROUTE_REFRESH_MESSAGE then codes "ROUTE-REFRESH" else
+    codes "UPDATE"))
 
 abbrev pub reset_line : ℕ → ℕ → Notification → List ℕ
 reset_line place len n = decimal place ++ (codes " " ++ (decimal len ++ (codes " " ++ (reset_name n.code ++ (codes " reset " ++ (notification_text n ++ 10 ∷ []))))))

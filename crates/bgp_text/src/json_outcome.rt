@@ -34,7 +34,7 @@ fn put_wide(text: &mut String, number: u64) -> Result<(), AllocError>
 
 /// Adds the beginning of an object: a message's offset, its length, what it is, and the verdict on it.
 #[tactic(auto, unfolding(crate::specs::JsonOutcome::judged))]
-fn put_judged(
+pub(crate) fn put_judged(
     text: &mut String,
     place: u64,
     len: u16,

@@ -43,6 +43,7 @@ pub(crate) fn reset_name(code: u8) -> &'static str
     match code {
         error::MESSAGE_HEADER => "HEADER",
         error::OPEN_MESSAGE => "OPEN",
+        error::ROUTE_REFRESH_MESSAGE => "ROUTE-REFRESH",
         _ => "UPDATE",
     }
 }

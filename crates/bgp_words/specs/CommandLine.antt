@@ -7,13 +7,15 @@ use Rattle.clap.specs.declared.error.kind.ErrorKind.TheVariants as error
 use Rattle.bgp_wire.specs.Prelude.{has_octet, none_of_them}
 use Rattle.bgp_wire.specs.declared.octet_set.OctetSet.{OctetSet}
 use Rattle.bgp_open.specs.declared.context.Context.{Context}
+use Rattle.bgp_terms.specs.declared.refreshes.Refreshes.{Refreshes}
+use Rattle.bgp_terms.specs.declared.refreshes.Refreshes.TheVariants as refreshes
 use Rattle.bgp_words.specs.declared.request.Request.{Request}
 use Rattle.bgp_words.specs.declared.request.Request.TheVariants.{Show, Explain, Check, Narrow, Clean, ToHex, FromHex, Loop}
 use Rattle.bgp_words.specs.declared.request.Session.{Session}
 use Rattle.bgp_words.specs.declared.request.Session.TheVariants.{Flags, Opens}
 use Rattle.bgp_words.specs.TypeList.{all_but, types_of}
 
--- ---- the command line: eight commands, six of them with flags
+-- ---- the command line: eight commands, seven of them with flags
 
 abbrev pub flag_rule : Text → Rule
 flag_rule name = record (new_rule name) { long = Some name; action = Some SetTrue }
@@ -32,9 +34,17 @@ with_option a name = with_rule a (option_rule name)
 abbrev pub with_families : App → App
 with_families a = with_flag (with_flag (with_flag a (codes "ip4")) (codes "ip6")) (codes "internal")
 
+-- whether the receiver offers ROUTE-REFRESH (RFC 2918)
+abbrev pub with_refresh : App → App
+with_refresh a = with_flag a (codes "refresh")
+
+-- and whether both speakers offer to mark where a refresh begins and ends (RFC 7313)
+abbrev pub with_refreshes : App → App
+with_refreshes a = with_flag (with_refresh a) (codes "enhanced-refresh")
+
 -- these, or the file with the octets of the other direction
 abbrev pub with_session : App → App
-with_session a = with_option (with_families a) (codes "opens")
+with_session a = with_option (with_refreshes (with_families a)) (codes "opens")
 
 -- the flags of a command that shows or checks
 abbrev pub with_judging : App → App
@@ -84,8 +94,11 @@ judging_commands = with_command printing_commands (with_judging (new_app (codes 
 abbrev pub rewriting_commands : App
 rewriting_commands = with_command (with_command judging_commands (with_session (new_app (codes "narrow")))) clean_command
 
+abbrev pub to_hex_command : App
+to_hex_command = with_refresh (new_app (codes "to-hex"))
+
 abbrev pub stream_commands : App
-stream_commands = with_command (with_command rewriting_commands (new_app (codes "to-hex"))) (new_app (codes "from-hex"))
+stream_commands = with_command (with_command rewriting_commands to_hex_command) (new_app (codes "from-hex"))
 
 abbrev pub bgp_command : App
 bgp_command = with_command stream_commands loop_command
@@ -104,13 +117,20 @@ is_set name rows = is_true (first_of name rows)
 abbrev pub context_of : Bool → List Row → Context
 context_of as4 rows = record { internal = is_set (codes "internal") rows; as4 = as4; ip4 = is_set (codes "ip4") rows; ip6 = is_set (codes "ip6") rows; hold = 0 }
 
+-- the ROUTE-REFRESH that the receiver accepts by the flags: the second implies the first
+abbrev pub refreshes_of : List Row → Refreshes
+refreshes_of rows =
+    if is_set (codes "enhanced-refresh") rows then refreshes.Enhanced else (
+    if is_set (codes "refresh") rows then refreshes.Plain else
+    refreshes.None)
+
 -- the session of the flags, unless a file is given for it
-abbrev pub session_by : Option Text → Context → Session
-session_by None ctx = Flags ctx
-session_by (Some file) ctx = Opens
+abbrev pub session_by : Option Text → Context → Refreshes → Session
+session_by None ctx accepted = Flags ctx accepted
+session_by (Some file) ctx accepted = Opens
 
 abbrev pub session_of : Bool → List Row → Session
-session_of as4 rows = session_by (first_of (codes "opens") rows) (context_of as4 rows)
+session_of as4 rows = session_by (first_of (codes "opens") rows) (context_of as4 rows) (refreshes_of rows)
 
 abbrev pub judged_in : List Row → Session
 judged_in rows = session_of (is_set (codes "as4") rows) rows
@@ -133,7 +153,7 @@ request_by name rows drops =
     if bytes_eq name (codes "check") then Check (judged_in rows) (is_set (codes "hex") rows) else (
     if bytes_eq name (codes "narrow") then Narrow (session_of true rows) else (
     if bytes_eq name (codes "clean") then Clean (judged_in rows) (is_set (codes "hex") rows) drops else (
-    if bytes_eq name (codes "to-hex") then ToHex else (
+    if bytes_eq name (codes "to-hex") then ToHex (is_set (codes "refresh") rows) else (
     if bytes_eq name (codes "from-hex") then FromHex else
     Loop (is_set (codes "tcp") rows) (is_set (codes "trace") rows)))))))
 
@@ -183,7 +203,9 @@ Asks words (Some asked) = AsksFor words asked.0 asked.1
 
 -- one of the flags is set that both OPENs determine
 abbrev pub has_session_flag : List Row → Bool
-has_session_flag rows = is_set (codes "as4") rows || (is_set (codes "ip4") rows || (is_set (codes "ip6") rows || is_set (codes "internal") rows))
+has_session_flag rows =
+    is_set (codes "as4") rows || (is_set (codes "ip4") rows || (is_set (codes "ip6") rows || (is_set (codes "internal") rows
+    || (is_set (codes "refresh") rows || is_set (codes "enhanced-refresh") rows))))
 
 -- the session is given by both OPENs, and by flags too
 abbrev pub is_told_twice : List Row → Bool

@@ -1,13 +1,15 @@
 -- What laws of the command line say of words.
-use Rattle.std.specs.Prelude.{◌≡◌, ◌<◌, ℕ, Bool, true, false, List, [], Some}
+use Rattle.std.specs.Prelude.{◌≡◌, ◌<◌, ℕ, Bool, true, false, List, [], Some, if◌then◌else◌}
 use Rattle.clap.specs.Words.{Text}
 use Rattle.bgp_attr.specs.Prelude.{is_recognised}
 use Rattle.bgp_wire.specs.Prelude.{none_of_them}
 use Rattle.bgp_wire.specs.declared.octet_set.OctetSet.{OctetSet}
 use Rattle.bgp_open.specs.declared.context.Context.{Context}
+use Rattle.bgp_terms.specs.declared.refreshes.Refreshes.TheVariants as refreshes
 use Rattle.bgp_words.specs.declared.request.Request.{Request}
 use Rattle.bgp_words.specs.declared.request.Request.TheVariants.{Clean}
 use Rattle.bgp_words.specs.declared.request.Session.{Session}
+use Rattle.bgp_words.specs.declared.request.Session.TheVariants.{Flags}
 use Rattle.bgp_words.specs.CommandLine.{drops_of, faults_of, request_of}
 
 -- the words have no error, and request this, with this file: no attributes are left out
@@ -28,6 +30,10 @@ pub record CanBeCleaned (words : List Text) (session : Session) (hex : Bool) (fi
 -- a context with and without all of the other flags
 abbrev pub flags : Bool → Bool → Context
 flags as4 others = record { internal = others; as4 = as4; ip4 = others; ip6 = others; hold = 0 }
+
+-- and the session
+abbrev pub by_flags : Bool → Bool → Session
+by_flags as4 others = Flags (flags as4 others) (if others then refreshes.Enhanced else refreshes.None)
 
 -- types that aren't recognised
 abbrev pub AreUnrecognised : (ℕ → Bool) → Type 0

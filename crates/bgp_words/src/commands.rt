@@ -1,9 +1,9 @@
 //! The commands of the program, with their flags and their help.
 
 ghost use Rattle.std.specs.Prelude.{◌≡◌, codes, false, IfOk};
-ghost use Rattle.clap.specs.Words.{app_of, rule_of, new_app, with_rule};
+ghost use Rattle.clap.specs.Words.{app_of, rule_of, new_app};
 ghost use Rattle.clap.specs.declared.builder.command.Command.TheViews.{out-Command};
-ghost use Rattle.bgp_words.specs.CommandLine.{flag_rule, with_flag, option_rule, with_option, with_families, with_session, with_judging, with_dropping, clean_command, with_printing, show_command, explain_command, with_command, bare_command, printing_commands, judging_commands, file_rule, loop_command, stream_commands, bgp_command};
+ghost use Rattle.bgp_words.specs.CommandLine.{flag_rule, with_flag, option_rule, with_option, with_families, with_refresh, with_refreshes, with_session, with_judging, with_dropping, clean_command, with_printing, show_command, explain_command, with_command, bare_command, printing_commands, judging_commands, file_rule, loop_command, to_hex_command, stream_commands, bgp_command};
 
 use crate::help::{
     CHECK_HELP, CLEAN_HELP, EXPLAIN_HELP, FROM_HEX_HELP, HELP, LOOP_HELP, NARROW_HELP, SHOW_HELP,
@@ -93,6 +93,32 @@ fn with_families<'a>(alloc: Global, command: Command<'a>) -> Result<Command<'a>,
     with_flag(alloc, command, "internal", "Both speakers are of one AS")
 }
 
+// A command with the flag for ROUTE-REFRESH.
+fn with_refresh<'a>(alloc: Global, command: Command<'a>) -> Result<Command<'a>, AllocError>
+    ensures shape { IfOk result (λ c. app_of c ≡ with_refresh (app_of command.entry)) }
+    ensures local { IfOk result (λ c. (out-Command c).has_globals ≡ (out-Command command.entry).has_globals) }
+{
+    with_flag(
+        alloc,
+        command,
+        "refresh",
+        "The receiver offers ROUTE-REFRESH (RFC 2918)",
+    )
+}
+
+// A command with this flag, and the one for enhanced ROUTE-REFRESH.
+fn with_refreshes<'a>(alloc: Global, command: Command<'a>) -> Result<Command<'a>, AllocError>
+    ensures shape { IfOk result (λ c. app_of c ≡ with_refreshes (app_of command.entry)) }
+    ensures local { IfOk result (λ c. (out-Command c).has_globals ≡ (out-Command command.entry).has_globals) }
+{
+    with_flag(
+        alloc,
+        with_refresh(alloc, command)?,
+        "enhanced-refresh",
+        "Both speakers offer enhanced ROUTE-REFRESH (RFC 7313)",
+    )
+}
+
 // A command with the flags that give the session.
 fn with_session<'a>(alloc: Global, command: Command<'a>) -> Result<Command<'a>, AllocError>
     ensures shape { IfOk result (λ c. app_of c ≡ with_session (app_of command.entry)) }
@@ -100,10 +126,10 @@ fn with_session<'a>(alloc: Global, command: Command<'a>) -> Result<Command<'a>, 
 {
     with_option(
         alloc,
-        with_families(alloc, command)?,
+        with_refreshes(alloc, with_families(alloc, command)?)?,
         OPENS,
         "FILE",
-        "Agree by both OPENs: FILE has the other direction's octets",
+        "Agree by both OPENs: FILE has the other direction",
     )
 }
 
@@ -239,7 +265,7 @@ fn with_printing<'a>(alloc: Global, command: Command<'a>) -> Result<Command<'a>,
         alloc,
         with_judging(alloc, command)?,
         "only-faults",
-        "Print messages with a fault or a note, and NOTIFICATIONs",
+        "Print messages with faults or notes, and NOTIFICATIONs",
     )?;
     with_flag(
         alloc,
@@ -365,43 +391,38 @@ fn judging<'a>(alloc: Global) -> Result<Command<'a>, AllocError>
     with_check(alloc, printing(alloc)?)
 }
 
-// A command with one more subcommand, which has no flags.
-fn with_plain<'a>(
-    alloc: Global,
-    command: Command<'a>,
-    name: &'a str,
-    about: &'a str,
-    more: &'a str,
-) -> Result<Command<'a>, AllocError>
-    ensures { IfOk result (λ c. app_of c ≡ with_command (app_of command.entry) (new_app name.now)) }
+// The command that prints digits.
+fn to_hex<'a>(alloc: Global) -> Result<Command<'a>, AllocError>
+    ensures shape { IfOk result (λ c. app_of c ≡ to_hex_command) }
+    ensures local { IfOk result (λ c. (out-Command c).has_globals ≡ false) }
 {
-    with_command(command, named(alloc, name, about, more))
+    let to_hex = named(
+        alloc,
+        "to-hex",
+        "Print each message as one line of digits",
+        TO_HEX_HELP,
+    );
+    with_refresh(alloc, to_hex)
 }
 
 // A command with the one that prints digits.
 fn with_to_hex<'a>(alloc: Global, command: Command<'a>) -> Result<Command<'a>, AllocError>
-    ensures { IfOk result (λ c. app_of c ≡ with_command (app_of command.entry) (new_app (codes "to-hex"))) }
+    ensures { IfOk result (λ c. app_of c ≡ with_command (app_of command.entry) to_hex_command) }
 {
-    with_plain(
-        alloc,
-        command,
-        "to-hex",
-        "Print each message as one line of digits",
-        TO_HEX_HELP,
-    )
+    with_command(command, to_hex(alloc)?)
 }
 
 // A command with the one that reads digits.
 fn with_from_hex<'a>(alloc: Global, command: Command<'a>) -> Result<Command<'a>, AllocError>
     ensures { IfOk result (λ c. app_of c ≡ with_command (app_of command.entry) (new_app (codes "from-hex"))) }
 {
-    with_plain(
+    let from_hex = named(
         alloc,
-        command,
         "from-hex",
         "Write the octets of hexadecimal text",
         FROM_HEX_HELP,
-    )
+    );
+    with_command(command, from_hex)
 }
 
 // The commands that read a stream.

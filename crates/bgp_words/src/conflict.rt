@@ -19,20 +19,40 @@ pub(crate) fn has_session_flag(flags: &ArgMatches<'_>) -> bool
         || is_set(flags, "ip4")
         || is_set(flags, "ip6")
         || is_set(flags, "internal")
+        || is_set(flags, "refresh")
+        || is_set(flags, "enhanced-refresh")
 }
 
-// The names of these flags that are set, each on a line of its own if there are several.
-fn names(alloc: Global, flags: &ArgMatches<'_>) -> Result<String, AllocError> {
-    let mut lines = String::new(alloc);
+// Adds the names of these flags that are set, each on a line of its own. Answers their number, and the last of them.
+fn put_names<'a>(
+    lines: &mut String,
+    flags: &ArgMatches<'_>,
+    names: &[&'a str],
+) -> Result<(u8, &'a str), AllocError> {
     let mut count = 0_u8;
     let mut last = "";
-    for name in ["as4", "ip4", "ip6", "internal"] {
+    for name in names {
         if is_set(flags, name) {
             write!(lines, "\n  --{name}")?;
             count = count.saturating_add(1);
             last = name;
         }
     }
+    Ok((count, last))
+}
+
+// The names of the flags of a session that are set, each on a line of its own if there are several.
+fn names(alloc: Global, flags: &ArgMatches<'_>) -> Result<String, AllocError> {
+    let session = [
+        "as4",
+        "ip4",
+        "ip6",
+        "internal",
+        "refresh",
+        "enhanced-refresh",
+    ];
+    let mut lines = String::new(alloc);
+    let (count, last) = put_names(&mut lines, flags, &session)?;
     if count == 1 {
         return format!(in alloc; " '--{last}'");
     }

@@ -4,38 +4,42 @@ ghost use Rattle.std.specs.Prelude.{◌≡◌, ℕ, Bool, List, [], ◌∷◌, c
 ghost use Rattle.clap.specs.Words.{Text};
 ghost use Rattle.clap.specs.declared.error.kind.ErrorKind.TheVariants as error;
 ghost use Rattle.bgp_wire.specs.Prelude.{also, none_of_them};
+ghost use Rattle.bgp_terms.specs.declared.refreshes.Refreshes.TheVariants as refreshes;
 ghost use Rattle.bgp_words.specs.declared.request.Request.TheVariants.{Show, Explain, Check, Narrow, ToHex, FromHex, Loop};
 ghost use Rattle.bgp_words.specs.declared.request.Session.TheVariants.{Flags, Opens};
 ghost use Rattle.bgp_words.specs.CommandLine.{drops_of, faults_of};
 ghost use Rattle.bgp_words.specs.TypeList.{all_but};
-ghost use Rattle.bgp_words.specs.Laws.{AreUnrecognised, CanBeCleaned, CanBeDone, CanBeDoneWith, flags};
+ghost use Rattle.bgp_words.specs.Laws.{AreUnrecognised, CanBeCleaned, CanBeDone, CanBeDoneWith, by_flags, flags};
 
 /// The command line of each command, without flags and with all of them.
 pub fn words_have_one_meaning()
-    ensures show { CanBeDone (codes "show" ∷ []) (Show (Flags (flags false false)) false false false) }
-    ensures show_hex { CanBeDone (codes "show" ∷ codes "--hex" ∷ codes "--as4" ∷ codes "--ip4" ∷ codes "--ip6" ∷ codes "--internal" ∷ []) (Show (Flags (flags true true)) true false false) }
-    ensures show_json { CanBeDone (codes "show" ∷ codes "--json" ∷ codes "--hex" ∷ []) (Show (Flags (flags false false)) true true false) }
-    ensures show_faults { CanBeDone (codes "show" ∷ codes "--only-faults" ∷ codes "--json" ∷ []) (Show (Flags (flags false false)) false true true) }
-    ensures explain { CanBeDone (codes "explain" ∷ []) (Explain (Flags (flags false false)) false false false) }
-    ensures explain_all { CanBeDone (codes "explain" ∷ codes "--only-faults" ∷ codes "--hex" ∷ codes "--as4" ∷ codes "--ip4" ∷ codes "--ip6" ∷ codes "--internal" ∷ []) (Explain (Flags (flags true true)) true false true) }
-    ensures explain_json { CanBeDone (codes "explain" ∷ codes "--json" ∷ codes "--only-faults" ∷ []) (Explain (Flags (flags false false)) false true true) }
+    ensures show { CanBeDone (codes "show" ∷ []) (Show (by_flags false false) false false false) }
+    ensures show_hex { CanBeDone (codes "show" ∷ codes "--hex" ∷ codes "--as4" ∷ codes "--ip4" ∷ codes "--ip6" ∷ codes "--internal" ∷ codes "--refresh" ∷ codes "--enhanced-refresh" ∷ []) (Show (by_flags true true) true false false) }
+    ensures show_json { CanBeDone (codes "show" ∷ codes "--json" ∷ codes "--hex" ∷ []) (Show (by_flags false false) true true false) }
+    ensures show_refresh { CanBeDone (codes "show" ∷ codes "--refresh" ∷ []) (Show (Flags (flags false false) refreshes.Plain) false false false) }
+    ensures show_enhanced { CanBeDone (codes "show" ∷ codes "--enhanced-refresh" ∷ []) (Show (Flags (flags false false) refreshes.Enhanced) false false false) }
+    ensures show_faults { CanBeDone (codes "show" ∷ codes "--only-faults" ∷ codes "--json" ∷ []) (Show (by_flags false false) false true true) }
+    ensures explain { CanBeDone (codes "explain" ∷ []) (Explain (by_flags false false) false false false) }
+    ensures explain_all { CanBeDone (codes "explain" ∷ codes "--only-faults" ∷ codes "--hex" ∷ codes "--as4" ∷ codes "--ip4" ∷ codes "--ip6" ∷ codes "--internal" ∷ codes "--refresh" ∷ codes "--enhanced-refresh" ∷ []) (Explain (by_flags true true) true false true) }
+    ensures explain_json { CanBeDone (codes "explain" ∷ codes "--json" ∷ codes "--only-faults" ∷ []) (Explain (by_flags false false) false true true) }
     ensures explain_opens { CanBeDoneWith (codes "explain" ∷ codes "--opens" ∷ codes "theirs" ∷ []) (Explain Opens false false false) (codes "theirs") }
-    ensures check { CanBeDone (codes "check" ∷ []) (Check (Flags (flags false false)) false) }
-    ensures check_hex { CanBeDone (codes "check" ∷ codes "--internal" ∷ codes "--ip6" ∷ codes "--ip4" ∷ codes "--as4" ∷ codes "--hex" ∷ []) (Check (Flags (flags true true)) true) }
-    ensures narrow { CanBeDone (codes "narrow" ∷ []) (Narrow (Flags (flags true false))) }
-    ensures narrow_all { CanBeDone (codes "narrow" ∷ codes "--ip4" ∷ codes "--ip6" ∷ codes "--internal" ∷ []) (Narrow (Flags (flags true true))) }
+    ensures check { CanBeDone (codes "check" ∷ []) (Check (by_flags false false) false) }
+    ensures check_hex { CanBeDone (codes "check" ∷ codes "--enhanced-refresh" ∷ codes "--internal" ∷ codes "--ip6" ∷ codes "--ip4" ∷ codes "--as4" ∷ codes "--hex" ∷ []) (Check (by_flags true true) true) }
+    ensures narrow { CanBeDone (codes "narrow" ∷ []) (Narrow (by_flags true false)) }
+    ensures narrow_all { CanBeDone (codes "narrow" ∷ codes "--ip4" ∷ codes "--ip6" ∷ codes "--internal" ∷ codes "--refresh" ∷ codes "--enhanced-refresh" ∷ []) (Narrow (by_flags true true)) }
     ensures show_opens { CanBeDoneWith (codes "show" ∷ codes "--opens" ∷ codes "theirs" ∷ codes "--hex" ∷ []) (Show Opens true false false) (codes "theirs") }
     ensures check_opens { CanBeDoneWith (codes "check" ∷ codes "--opens=theirs" ∷ []) (Check Opens false) (codes "theirs") }
     ensures narrow_opens { CanBeDoneWith (codes "narrow" ∷ codes "--opens" ∷ codes "theirs" ∷ []) (Narrow Opens) (codes "theirs") }
     ensures no_name { CanBeDoneWith (codes "show" ∷ codes "--opens" ∷ [] ∷ []) (Show Opens false false false) [] }
-    ensures clean { CanBeCleaned (codes "clean" ∷ []) (Flags (flags false false)) false [] none_of_them }
-    ensures clean_all { CanBeCleaned (codes "clean" ∷ codes "--hex" ∷ codes "--as4" ∷ codes "--ip4" ∷ codes "--ip6" ∷ codes "--internal" ∷ []) (Flags (flags true true)) true [] none_of_them }
+    ensures clean { CanBeCleaned (codes "clean" ∷ []) (by_flags false false) false [] none_of_them }
+    ensures clean_all { CanBeCleaned (codes "clean" ∷ codes "--hex" ∷ codes "--as4" ∷ codes "--ip4" ∷ codes "--ip6" ∷ codes "--internal" ∷ codes "--refresh" ∷ codes "--enhanced-refresh" ∷ []) (by_flags true true) true [] none_of_them }
     ensures clean_opens { CanBeCleaned (codes "clean" ∷ codes "--opens" ∷ codes "theirs" ∷ []) Opens false (codes "theirs") none_of_them }
-    ensures clean_types { CanBeCleaned (codes "clean" ∷ codes "--drop" ∷ codes "0,16,255" ∷ []) (Flags (flags false false)) false [] (also 255 (also 16 (also 0 none_of_them))) }
-    ensures clean_again { CanBeCleaned (codes "clean" ∷ codes "--drop=16,35,0016" ∷ codes "--hex" ∷ []) (Flags (flags false false)) true [] (also 16 (also 35 (also 16 none_of_them))) }
-    ensures clean_unknown { CanBeCleaned (codes "clean" ∷ codes "--drop-unknown" ∷ []) (Flags (flags false false)) false [] (all_but none_of_them) }
+    ensures clean_types { CanBeCleaned (codes "clean" ∷ codes "--drop" ∷ codes "0,16,255" ∷ []) (by_flags false false) false [] (also 255 (also 16 (also 0 none_of_them))) }
+    ensures clean_again { CanBeCleaned (codes "clean" ∷ codes "--drop=16,35,0016" ∷ codes "--hex" ∷ []) (by_flags false false) true [] (also 16 (also 35 (also 16 none_of_them))) }
+    ensures clean_unknown { CanBeCleaned (codes "clean" ∷ codes "--drop-unknown" ∷ []) (by_flags false false) false [] (all_but none_of_them) }
     ensures clean_but { CanBeCleaned (codes "clean" ∷ codes "--pass" ∷ codes "16,35" ∷ codes "--drop-unknown" ∷ codes "--opens=theirs" ∷ []) Opens false (codes "theirs") (all_but (also 35 (also 16 none_of_them))) }
-    ensures to_hex { CanBeDone (codes "to-hex" ∷ []) ToHex }
+    ensures to_hex { CanBeDone (codes "to-hex" ∷ []) (ToHex false) }
+    ensures to_hex_refresh { CanBeDone (codes "to-hex" ∷ codes "--refresh" ∷ []) (ToHex true) }
     ensures from_hex { CanBeDone (codes "from-hex" ∷ []) FromHex }
     ensures runs { CanBeDoneWith (codes "loop" ∷ codes "two.script" ∷ []) (Loop false false) (codes "two.script") }
     ensures runs_tcp { CanBeDoneWith (codes "loop" ∷ codes "--tcp" ∷ codes "two.script" ∷ []) (Loop true false) (codes "two.script") }
@@ -54,6 +58,9 @@ pub fn words_can_be_wrong()
     ensures both_explain { faults_of (codes "explain" ∷ codes "--opens" ∷ codes "theirs" ∷ codes "--ip6" ∷ []) ≡ error.ArgumentConflict ∷ [] }
     ensures both { faults_of (codes "show" ∷ codes "--opens" ∷ codes "theirs" ∷ codes "--as4" ∷ []) ≡ error.ArgumentConflict ∷ [] }
     ensures both_narrow { faults_of (codes "narrow" ∷ codes "--internal" ∷ codes "--opens" ∷ codes "theirs" ∷ []) ≡ error.ArgumentConflict ∷ [] }
+    ensures both_refresh { faults_of (codes "check" ∷ codes "--refresh" ∷ codes "--opens" ∷ codes "theirs" ∷ []) ≡ error.ArgumentConflict ∷ [] }
+    ensures both_enhanced { faults_of (codes "clean" ∷ codes "--opens" ∷ codes "theirs" ∷ codes "--enhanced-refresh" ∷ []) ≡ error.ArgumentConflict ∷ [] }
+    ensures no_enhanced { faults_of (codes "to-hex" ∷ codes "--enhanced-refresh" ∷ []) ≡ error.UnknownArgument ∷ [] }
     ensures no_value { faults_of (codes "check" ∷ codes "--opens" ∷ []) ≡ error.InvalidValue ∷ [] }
     ensures no_file { faults_of (codes "loop" ∷ []) ≡ error.MissingRequiredArgument ∷ [] }
     ensures both_clean { faults_of (codes "clean" ∷ codes "--opens" ∷ codes "theirs" ∷ codes "--ip4" ∷ []) ≡ error.ArgumentConflict ∷ [] }

@@ -2,7 +2,7 @@
 
 ghost use Rattle.std.specs.Prelude.{◌≡◌, codes, map, true, Some, option_map, IfOk};
 ghost use Rattle.clap.specs.Words.{FailsBy, first_of, found_of, rows_of};
-ghost use Rattle.bgp_words.specs.CommandLine.{Asks, IsAsked, context_of, faults_of, file_in, is_told_twice, judged_in, kinds_in, request_by, session_of, text_or_empty};
+ghost use Rattle.bgp_words.specs.CommandLine.{Asks, IsAsked, context_of, faults_of, file_in, is_told_twice, judged_in, kinds_in, refreshes_of, request_by, session_of, text_or_empty};
 
 use crate::commands::{FILE, OPENS, bgp};
 use crate::conflict::{conflict, has_session_flag};
@@ -11,6 +11,7 @@ use crate::drops::{
 };
 use crate::given::{is_set, value_of};
 use bgp_open::Context;
+use bgp_terms::Refreshes;
 use bgp_wire::OctetSet;
 use clap::{ArgMatches, Error};
 use std::alloc::Global;
@@ -18,8 +19,8 @@ use std::alloc::Global;
 /// What gives the context of a session.
 #[derive(Clone, Copy)]
 pub enum Session {
-    /// The flags, which give this context.
-    Flags(Context),
+    /// The flags, which give this context, and which ROUTE-REFRESH the receiver accepts.
+    Flags(Context, Refreshes),
     /// The OPENs of both directions: a file has the octets of the other one.
     Opens,
 }
@@ -57,8 +58,10 @@ pub enum Request {
         hex: bool,
         drops: OctetSet,
     },
-    /// `to-hex`.
-    ToHex,
+    /// `to-hex`, where ROUTE-REFRESH is a type if `refresh` is set.
+    ToHex {
+        refresh: bool,
+    },
     /// `from-hex`.
     FromHex,
     /// `loop`, over TCP if `tcp` is set, else in memory; with the outcome of each move if `trace` is set.
@@ -90,13 +93,27 @@ fn context(flags: &ArgMatches<'_>, as4: bool) -> Context
     }
 }
 
+// Which ROUTE-REFRESH the receiver accepts by the flags.
+fn refreshes(flags: &ArgMatches<'_>) -> Refreshes
+    ensures { result ≡ refreshes_of (rows_of (found_of flags.now)) }
+{
+    if is_set(flags, "enhanced-refresh") {
+        return Refreshes::Enhanced;
+    }
+    if is_set(flags, "refresh") {
+        Refreshes::Plain
+    } else {
+        Refreshes::None
+    }
+}
+
 // What gives the context: the flags, unless a file is given for it.
 fn session_of(flags: &ArgMatches<'_>, as4: bool) -> Session
     ensures { result ≡ session_of as4 (rows_of (found_of flags.now)) }
 {
     match value_of(flags, OPENS) {
         Some(_) => Session::Opens,
-        None => Session::Flags(context(flags, as4)),
+        None => Session::Flags(context(flags, as4), refreshes(flags)),
     }
 }
 
@@ -147,7 +164,9 @@ fn asked_by(name: &str, flags: &ArgMatches<'_>, drops: OctetSet) -> Request
         };
     }
     if name == "to-hex" {
-        return Request::ToHex;
+        return Request::ToHex {
+            refresh: is_set(flags, "refresh"),
+        };
     }
     if name == "from-hex" {
         return Request::FromHex;

@@ -51,23 +51,20 @@ module _ (hex : Bool) (reader_old reader_new : HexText) (old new : Reports) (goi
 pub record WritesAll (reports : Reports) (told : List ℕ) (old new : Option (List ℕ)) (answer : Result Tally ToolFault) : Type 0 where
   pub report : Report
   pub reported : reports [] report
-  pub none : report.lines ≡ []
-  pub wrote : Appends old new (told ++ report.last)
+  pub wrote : Appends old new (told ++ (report.lines ++ report.last))
   pub answers : report.answer ≡ answer
 
 -- nothing was written
 pub record WritesNone (reports : Reports) (old new : Option (List ℕ)) : Type 0 where
   pub report : Report
   pub reported : reports [] report
-  pub none : report.lines ≡ []
   pub wrote : Appends old new []
 
 -- a prefix of it was written
 pub record WritesFront (reports : Reports) (told : List ℕ) (old new : Option (List ℕ)) : Type 0 where
   pub report : Report
   pub reported : reports [] report
-  pub none : report.lines ≡ []
-  pub wrote : AppendsFront old new (told ++ report.last)
+  pub wrote : AppendsFront old new (told ++ (report.lines ++ report.last))
 
 abbrev pub Finished : Reports → List ℕ → Option (List ℕ) → Option (List ℕ) → Result Tally ToolFault → Type 0
 Finished reports told old new (Ok tally) = WritesAll reports told old new (Ok tally)

@@ -44,22 +44,21 @@ pub record Takes (old new : Reports) (going : Type 0) (told_old told_new octets 
 abbrev pub IsTotal : Reports → Type 0
 IsTotal reports = (later : List ℕ) → AreOctets later → (r : Report) × reports later r
 
--- what is written last was collected, and this is the answer
+-- what is still written was collected, and this is the answer
 abbrev pub ClosesBy : Report → List ℕ → List ℕ → Result Tally ToolFault → Type 0
-ClosesBy report told_old told_new (Ok tally) = (told_new ≡ told_old ++ report.last) × (report.answer ≡ Ok tally)
+ClosesBy report told_old told_new (Ok tally) = (told_new ≡ told_old ++ (report.lines ++ report.last)) × (report.answer ≡ Ok tally)
 ClosesBy report told_old told_new (Err ToolFault.Memory) = Unit {0}
 ClosesBy report told_old told_new (Err ToolFault.Read) = ⊥
 ClosesBy report told_old told_new (Err ToolFault.Write) = ⊥
 ClosesBy report told_old told_new (Err (ToolFault.BadHex n)) = ⊥
 ClosesBy report told_old told_new (Err (ToolFault.Script n)) = ⊥
 ClosesBy report told_old told_new (Err ToolFault.Net) = ⊥
-ClosesBy report told_old told_new (Err (ToolFault.Narrow n)) = (told_new ≡ told_old ++ report.last) × (report.answer ≡ Err (ToolFault.Narrow n))
-ClosesBy report told_old told_new (Err (ToolFault.Clean n why)) = IsWordless why × (told_new ≡ told_old ++ report.last) × (report.answer ≡ Err (ToolFault.Clean n why))
-ClosesBy report told_old told_new (Err (ToolFault.NoContext why)) = (told_new ≡ told_old ++ report.last) × (report.answer ≡ Err (ToolFault.NoContext why))
+ClosesBy report told_old told_new (Err (ToolFault.Narrow n)) = (told_new ≡ told_old ++ (report.lines ++ report.last)) × (report.answer ≡ Err (ToolFault.Narrow n))
+ClosesBy report told_old told_new (Err (ToolFault.Clean n why)) = IsWordless why × (told_new ≡ told_old ++ (report.lines ++ report.last)) × (report.answer ≡ Err (ToolFault.Clean n why))
+ClosesBy report told_old told_new (Err (ToolFault.NoContext why)) = (told_new ≡ told_old ++ (report.lines ++ report.last)) × (report.answer ≡ Err (ToolFault.NoContext why))
 
 -- the stream ends
 pub record Closes (reports : Reports) (told_old told_new : List ℕ) (answer : Result Tally ToolFault) : Type 0 where
   pub report : Report
   pub reported : reports [] report
-  pub none : report.lines ≡ []
   pub closes : ClosesBy report told_old told_new answer

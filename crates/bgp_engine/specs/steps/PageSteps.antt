@@ -1,10 +1,11 @@
 -- Steps of two pages, which only private functions cite.
-use Rattle.std.specs.Prelude.{◌≡◌, ℕ, Bool, List, [], ◌++◌, Option, unwrap_or}
+use Rattle.std.specs.Prelude.{◌≡◌, ℕ, List, [], ◌++◌, Option, unwrap_or}
 use Rattle.bgp_engine.specs.Below.{Context, Outcome, is_reset, Span}
 use Rattle.bgp_engine.specs.declared.class.Class.{Class}
 use Rattle.bgp_engine.specs.Explain.{Form, heard_text}
 use Rattle.bgp_engine.specs.Heard.{Heard}
 use Rattle.bgp_engine.specs.Narrow.{narrowed_class}
+use Rattle.bgp_engine.specs.OnlyFaults.{Chosen}
 use Rattle.bgp_engine.specs.steps.Pages.{is_last}
 use Rattle.bgp_engine.specs.Show.{class_of}
 
@@ -20,7 +21,7 @@ pub record WritesNarrow (old new : List ℕ) (o : Option (List ℕ)) (class : Cl
   pub counts : class ≡ narrowed_class o
 
 -- the text of a message was added, and it counts as this
-pub record WritesHeard (form : Form) (printed : Outcome → Bool) (ctx : Context) (old new : List ℕ) (place len : ℕ) (octets : List ℕ) (h : Heard) (class : Class) : Type 0 where
+pub record WritesHeard (form : Form) (printed : Chosen) (ctx : Context) (old new : List ℕ) (place len : ℕ) (octets : List ℕ) (h : Heard) (class : Class) : Type 0 where
   pub told : new ≡ old ++ heard_text form printed ctx place len octets h
   pub counts : class ≡ class_of h.outcome
   pub ends : is_reset h.outcome ≡ is_last class

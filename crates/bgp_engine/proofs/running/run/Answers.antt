@@ -84,7 +84,7 @@ returns-in_err-put-in-Bad g c =
     let rests = m.takes.stands.1 in
     let reached = Reached-bad s (g.R.Read.remaining c.read.new.self) block c.take_block.ensures.octets c.in-Ok.ensures.bytes.0 at.invariant.told c.in-Bad.place m in
     rw (p.1, p.2)
-    (fails_put w1 reached rests.report _ rests.reported rests.none
+    (fails_put w1 reached rests.report _ rests.reported
     (subst (λ (x : List ℕ). FailsWithin w w1 x c.in_err-put-in-Bad.field-0.0) c.told.ensures c.in_err-put-in-Bad.ensures.err))
 
 pub returns-in-Bad : goal.returns-in-Bad
@@ -114,7 +114,7 @@ returns-in_err-put g c =
     let rests = m.takes.stands.1 in
     let reached = Reached-block s (g.R.Read.remaining c.read.new.self) block c.take_block.ensures.octets c.in-Ok.ensures.bytes.0 at.invariant.told m in
     rw (p.1, p.2)
-    (fails_put w1 reached rests.report _ rests.reported rests.none
+    (fails_put w1 reached rests.report _ rests.reported
     (subst (λ (x : List ℕ). FailsWithin w w1 x c.in_err-put.field-0.0) c.told-in-reading.ensures c.in_err-put.ensures.err))
 
 pub reading-preserved : goal.reading-preserved

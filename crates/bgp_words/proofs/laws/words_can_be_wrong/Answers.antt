@@ -92,3 +92,15 @@ returns-clause-pass_recognised c = refl
 pub returns-clause-both_explain : goal.returns-clause-both_explain
 unfolding clap_on_literals
 returns-clause-both_explain c = refl
+
+pub returns-clause-both_refresh : goal.returns-clause-both_refresh
+unfolding clap_on_literals
+returns-clause-both_refresh c = refl
+
+pub returns-clause-both_enhanced : goal.returns-clause-both_enhanced
+unfolding clap_on_literals
+returns-clause-both_enhanced c = refl
+
+pub returns-clause-no_enhanced : goal.returns-clause-no_enhanced
+unfolding clap_on_literals
+returns-clause-no_enhanced c = refl

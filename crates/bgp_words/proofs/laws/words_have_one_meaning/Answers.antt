@@ -116,3 +116,15 @@ returns-clause-explain_json c = record { without_fault = refl; asked = λ drops.
 pub returns-clause-explain_opens : goal.returns-clause-explain_opens
 unfolding clap_on_literals
 returns-clause-explain_opens c = record { without_fault = refl; asked = λ drops. refl; left_out = refl }
+
+pub returns-clause-show_refresh : goal.returns-clause-show_refresh
+unfolding clap_on_literals
+returns-clause-show_refresh c = record { without_fault = refl; asked = λ drops. refl; left_out = refl }
+
+pub returns-clause-show_enhanced : goal.returns-clause-show_enhanced
+unfolding clap_on_literals
+returns-clause-show_enhanced c = record { without_fault = refl; asked = λ drops. refl; left_out = refl }
+
+pub returns-clause-to_hex_refresh : goal.returns-clause-to_hex_refresh
+unfolding clap_on_literals
+returns-clause-to_hex_refresh c = record { without_fault = refl; asked = λ drops. refl; left_out = refl }

@@ -10,10 +10,11 @@ returns-in_err-last g c =
 pub returns : goal.returns
 returns g c =
     let w = c.args.self.now in
+    let held = w.framer.octets in
     let rules = g.P.Page.rules w.page in
-    let over = subst (λ o. IsOver (end_by o (length w.framer))) c.requires.ended (c.requires.ready.over (ap is_some c.requires.ended)) in
-    let none = none_wait rules w.framer c.args.end over in
+    let over = subst (λ o. IsOver (end_by o (length held))) c.requires.ended (c.requires.ready.over (ap is_some c.requires.ended)) in
+    let none = none_wait rules held c.args.end over in
     let told = g.P.Page.told w.page in
     let all = ap (λ (x : List ℕ). told ++ x) (sym (append-nil (rules.last (record w.tally { end = c.args.end }))) ∙ ap (λ (x : List ℕ). rules.last (record w.tally { end = c.args.end }) ++ x) (sym none)) in
-    closes _ c.args.end _ _ _ c.requires.ready (ap (λ o. end_by o (length w.framer)) c.requires.ended) c.answer.ensures.kind
+    closes _ c.args.end _ _ _ c.requires.ready (ap (λ o. end_by o (length held)) c.requires.ended) c.answer.ensures.kind
     (c.in_ok-last.ensures.writes ∙ all) (rw (sym c.last.ensures.rules) c.answer.ensures.value)

@@ -17,7 +17,7 @@ returns g c =
     let w = c.args.self.now in
     let rules = g.P.Page.rules w.page in
     let told = g.P.Page.told in
-    let rest : told c.rest.new.self ≡ told c.last.new.self ++ rules.rest w.framer = rw (sym c.last.ensures.rules, sym c.octets.ensures) c.in_ok-rest.ensures.writes in
-    closes _ (End.Wait c.held.result) _ _ _ c.requires.ready (ap (λ o. end_by o (length w.framer)) c.requires.ended ∙ ap End.Wait (sym c.held.ensures.value)) c.answer.ensures.kind
-    (rest ∙ ap (λ (x : List ℕ). x ++ rules.rest w.framer) c.in_ok-last.ensures.writes ∙ append_assoc (told w.page) _ (rules.rest w.framer))
+    let rest : told c.rest.new.self ≡ told c.last.new.self ++ rules.rest w.framer.octets = rw (sym c.last.ensures.rules, sym c.octets.ensures) c.in_ok-rest.ensures.writes in
+    closes _ (End.Wait c.held.result) _ _ _ c.requires.ready (ap (λ o. end_by o (length w.framer.octets)) c.requires.ended ∙ ap End.Wait (sym c.held.ensures.value)) c.answer.ensures.kind
+    (rest ∙ ap (λ (x : List ℕ). x ++ rules.rest w.framer.octets) c.in_ok-last.ensures.writes ∙ append_assoc (told w.page) _ (rules.rest w.framer.octets))
     (rw (sym c.last.ensures.rules, sym c.rest.ensures.rules) c.answer.ensures.value)

@@ -9,7 +9,7 @@ invariant-stream g l =
     let now = l.self in
     record {
       moves : Moves (walk_of rules old) (walk_of rules now) (told old.page) (told now.page) l.fn.octets l.rest;
-      fits : now.ended ≡ None → now.place + length now.framer + length l.rest ≤ 2 ^ 60;
+      fits : now.ended ≡ None → now.place + length now.framer.octets + length l.rest ≤ 2 ^ 60;
     }
 
 abbrev pub decreases-stream : goal.decreases-stream

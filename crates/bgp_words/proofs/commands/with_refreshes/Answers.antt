@@ -1,0 +1,6 @@
+use Rattle.bgp_words.proofs.Prelude.{codes, ap, ◌∙◌, IfOk-weaker, App, with_flag}
+use Rattle.bgp_words.proofs.commands.with_refreshes.Goals as goal
+
+pub returns-clause-shape : goal.returns-clause-shape
+returns-clause-shape c =
+    IfOk-weaker c.with_flag.result _ _ (λ r is. is ∙ ap (λ (a : App). with_flag a (codes "enhanced-refresh")) c.in_ok-with_refresh.ensures.shape) c.with_flag.ensures.shape
