@@ -123,7 +123,7 @@ func Agree(ours, theirs []byte) (Context, uint16, error) {
 	if err := failed(C.ristulva_agree(one, oneSize, other, otherSize, &said, &hold)); err != nil {
 		return Context{}, 0, err
 	}
-	return Context{said.internal != 0, said.as4 != 0, said.ip4 != 0, said.ip6 != 0}, uint16(hold), nil
+	return contextOf(said), uint16(hold), nil
 }
 
 // Directions gives the messages of both directions of a session, in the context that their first OPENs agree on, or Agree's error.

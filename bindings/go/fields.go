@@ -73,8 +73,11 @@ type Field struct {
 }
 
 // Fields gives all fields of the message, in their order: their octets joined are the message, whatever it is. Where it is accepted without a note none
-// is FieldUnread.
+// is FieldUnread. Nil of a ROUTE-REFRESH.
 func (message *Message) Fields() []Field {
+	if message.isRefresh() {
+		return nil
+	}
 	// There are no more than octets.
 	found := make([]C.ristulva_field, len(message.octets))
 	said := message.context.said()
@@ -89,8 +92,11 @@ func (message *Message) Fields() []Field {
 	return fields
 }
 
-// Fault gives the octets of the message for which the session ends: their offset and length; none where it doesn't end.
+// Fault gives the octets of the message for which the session ends: their offset and length; none where it doesn't end, nor of a ROUTE-REFRESH.
 func (message *Message) Fault() (at, length int) {
+	if message.isRefresh() {
+		return 0, 0
+	}
 	said := message.context.said()
 	octets, size := octetsOf(message.octets)
 	var span C.ristulva_span
@@ -99,8 +105,11 @@ func (message *Message) Fault() (at, length int) {
 }
 
 // FaultSection is the section of an RFC by which the session ends, as `bgp explain` prints it; "own rule" where no RFC has the rule. Empty where it
-// doesn't end.
+// doesn't end, and of a ROUTE-REFRESH.
 func (message *Message) FaultSection() string {
+	if message.isRefresh() {
+		return ""
+	}
 	said := message.context.said()
 	octets, size := octetsOf(message.octets)
 	var text [C.RISTULVA_SECTION]byte

@@ -43,20 +43,23 @@ const (
 	Keepalive                       // a KEEPALIVE is accepted
 	Withdraw                        // an UPDATE is treated as a withdrawal of all its routes (RFC 7606, section 2)
 	Reset                           // the session ends, by a NOTIFICATION to the peer
+	Refresh                         // a ROUTE-REFRESH is accepted: only by Terms
 )
 
 func (verdict Verdict) String() string {
-	names := [...]string{"", "open", "update", "notification", "keepalive", "withdraw", "reset"}
+	names := [...]string{"", "open", "update", "notification", "keepalive", "withdraw", "reset", "refresh"}
 	if int(verdict) < len(names) {
 		return names[verdict]
 	}
 	return fmt.Sprintf("verdict %d", uint8(verdict))
 }
 
-// Message is a message that was judged, or a header with a fault. It has octets of its own.
+// Message is a message that was judged, or a header with a fault. It has octets of its own. A ROUTE-REFRESH, which only Terms have, has neither fields
+// nor a section.
 type Message struct {
 	octets  []byte
 	context Context
+	terms   *Terms // nil where it was judged in a context
 	place   uint64
 	found   C.ristulva_verdict
 	data    []byte
@@ -76,13 +79,18 @@ func judged(context Context, octets []byte, place uint64) (*Message, error) {
 	if status != C.RISTULVA_OK {
 		return nil, failed(status)
 	}
+	message.take(octets, data[:])
+	return message, nil
+}
+
+// Keeps the octets and the data that its verdict is about.
+func (message *Message) take(octets, data []byte) {
 	length := int(message.found.len)
 	if length == 0 {
 		length = headerLen
 	}
 	message.octets = cloned(octets[:length])
 	message.data = cloned(data[:message.found.data_len])
-	return message, nil
 }
 
 // Messages gives the messages of a stream, up to the first that ends the session, and the octets after them, of an incomplete one, or after a reset.
@@ -107,7 +115,7 @@ func (message *Message) Octets() []byte { return cloned(message.octets) }
 // Place is the message's offset in its stream.
 func (message *Message) Place() uint64 { return message.place }
 
-// Context is the one that the message was judged in.
+// Context is the one that the message was judged in, or that of the terms.
 func (message *Message) Context() Context { return message.context }
 
 // Verdict is the message's outcome.
@@ -139,17 +147,28 @@ func (message *Message) String() string {
 
 // Text gives the lines that `bgp show` prints, or ErrMemory.
 func (message *Message) Text() (string, error) {
-	said := message.context.said()
-	at, size := octetsOf(message.octets)
 	for room := 4096; ; {
 		text := make([]byte, room)
-		var written C.size_t
-		status := C.ristulva_text(&said, C.uint64_t(message.place), at, size, (*C.char)(unsafe.Pointer(&text[0])), C.size_t(room), &written)
+		written, status := message.writeText(text)
 		if status != C.RISTULVA_ROOM {
 			return string(text[:written]), failed(status)
 		}
 		room = int(written)
 	}
+}
+
+// Writes the lines by the terms, where it has some, else in its context.
+func (message *Message) writeText(text []byte) (written C.size_t, status C.ristulva_status) {
+	place, into, room := C.uint64_t(message.place), (*C.char)(unsafe.Pointer(&text[0])), C.size_t(len(text))
+	at, size := octetsOf(message.octets)
+	if message.terms == nil {
+		said := message.context.said()
+		status = C.ristulva_text(&said, place, at, size, into, room, &written)
+	} else {
+		said := message.terms.said()
+		status = C.ristulva_text_in(&said, place, at, size, into, room, &written)
+	}
+	return written, status
 }
 
 // The octets of a span.

@@ -63,8 +63,11 @@ type Cleaned struct {
 
 // Clean gives what may be passed on of the message to a receiver, well formed whatever arrived: one message, or up to three of an UPDATE: withdrawn
 // routes, those of NLRI, those of MP_REACH_NLRI. Attributes of unrecognised types among `types` are left out; `first` is whether the message is the first
-// one of its stream.
+// one of its stream. ErrRefresh: a ROUTE-REFRESH isn't passed on.
 func (message *Message) Clean(first bool, types ...byte) (Cleaned, error) {
+	if message.isRefresh() {
+		return Cleaned{}, ErrRefresh
+	}
 	var written [PartsMax]byte
 	var count C.size_t
 	var told C.ristulva_cleaned

@@ -9,6 +9,7 @@ import sys
 import tempfile
 import threading
 import unittest
+import unittest.mock
 import warnings
 
 import ristulva
@@ -186,6 +187,108 @@ class Ends(unittest.TestCase):
         self.assertEqual((table.message(place), table.message(place).verdict), (ristulva.judge(SECOND, FOUR, int(place)), "withdraw"))
         with self.assertRaises(ValueError):
             table.message(len(STREAM))
+
+
+NONE, PLAIN, ENHANCED = (ristulva.Terms(FOUR, it) for it in ristulva.Refreshes)
+REQUEST, BEGIN, LONG = message(5, "00010001"), message(5, "00010101"), message(5, "00010001" + "0002010110" * 800)
+
+
+@unittest.skipUnless(HAS_NUMPY, "needs numpy")
+class Refreshed(unittest.TestCase):
+    """By terms an accepted ROUTE-REFRESH has no rows (RFC 2918; RFC 7313), and the others are at their offsets in the whole stream."""
+
+    def same(self, parts, terms, wanted=()):
+        """A table of the parts of a stream by terms, of which some are a ROUTE-REFRESH, against one of the others in the context."""
+        table, warned = told(b"".join(parts), terms)
+        others, at, shifts = b"", 0, {}
+        for part in parts:
+            if part[18:19] != b"\5":
+                shifts[len(others)] = at
+                others += part
+            at += len(part)
+        plain, _ = told(others, terms.context)
+        for kind in tables.KINDS:
+            ours, theirs = getattr(table, kind), getattr(plain, kind)
+            names = [name for name in ours.dtype.names if name != "message"]
+            self.assertEqual(values(ours, *names), values(theirs, *names))
+            self.assertEqual(values(ours, "message"), [shifts[place] for place in values(theirs, "message")])
+        self.assertEqual((table.terms, table.context, warned), (terms, terms.context, [*wanted]))
+        return table
+
+    def test_each_place(self):
+        parts = [KEEPALIVE, FIRST, KEEPALIVE, SECOND]
+        for refresh, terms in ((REQUEST, PLAIN), (BEGIN, ENHANCED), (LONG, PLAIN)):
+            for at in range(5):
+                for count in (1, 3):
+                    table = self.same([*parts[:at], *[refresh] * count, *parts[at:]], terms)
+                    self.assertEqual((table.taken, table.rest, table.reset), (len(STREAM) + count * len(refresh), 0, None))
+        self.same([REQUEST], PLAIN)
+        self.same([BEGIN] * 2, ENHANCED)
+        self.same(parts, NONE)
+
+    def test_others(self):
+        """One that the reader doesn't accept resets the session, and so does another message that does; of these a message has the outcome by the terms."""
+        short, mark = message(5, "000101"), message(5, "0001010100")
+        for bad, terms, code in ((REQUEST, NONE, (1, 3)), (short, PLAIN, (1, 2)), (short, ENHANCED, (7, 1)), (mark, ENHANCED, (7, 1)), (RESET, PLAIN, (3, 10))):
+            before = b"" if terms is NONE else REQUEST
+            table, warned = told(before + STREAM + bad + FIRST, terms)
+            self.assertEqual((table.routes.size, table.taken, table.rest, warned), (6, len(before + STREAM), len(bad + FIRST), [ristulva.Reset]))
+            self.assertEqual((table.reset, table.reset.terms), (ristulva.judge(bad + FIRST, terms, table.taken), terms))
+            self.assertEqual(table.reset.notification[:2], code)
+        self.assertEqual(told(STREAM + REQUEST, FOUR)[1], [ristulva.Reset])
+        self.assertIsNone(told(STREAM, FOUR)[0].terms)
+
+    def test_incomplete(self):
+        """One that is cut off is no fault of its header, which it is in a context."""
+        for size in range(1, len(REQUEST)):
+            table, warned = told(STREAM + REQUEST + FIRST + REQUEST[:size], PLAIN)
+            self.assertEqual((table.routes.size, table.rest, table.reset, warned), (11, size, None, [ristulva.Incomplete]))
+        self.assertEqual(told(STREAM + REQUEST[:19], FOUR)[1], [ristulva.Reset])
+
+    def test_many(self):
+        """Each is judged once, whatever the number of rows between two of them: the time is that of the stream's length."""
+        full, one = update(withdrawn="00" * 4073), update(ORIGIN + PATH + HOP + COMMUNITIES, nlri="080a")
+        for parts in ([one, REQUEST] * 3000, [REQUEST] * 3000 + [full] * 9, [REQUEST, full, full, REQUEST] * 9, [KEEPALIVE] * 20000 + [full, BEGIN] * 9):
+            terms = ENHANCED if BEGIN in parts else PLAIN
+            octets = b"".join(parts)
+            with unittest.mock.patch.object(tables, "judge", wraps=tables.judge) as judge:
+                table = ristulva.table(octets, terms)
+                self.assertEqual(judge.call_count, 1 + sum(part[18] == 5 for part in parts))
+            self.assertEqual((table.taken, table.rest, table.routes.flags.owndata), (len(octets), 0, True))
+            self.assertEqual(values(table.routes, "message"), [it.place for it in ristulva.messages(octets, terms) for _ in it.routes()])
+
+    def test_rooms(self):
+        """Whatever room the calls have, the rows are the same."""
+        octets = tables.view_of((STREAM + REQUEST + FIRST) * 2000 + REQUEST[:20])
+        whole = [tables.read(kind, octets, PLAIN) for kind in tables.KINDS]
+        self.assertEqual({it.status for it in whole}, {tables.INCOMPLETE})
+        for room in (4073, 4074, 5000):
+            for kind, wanted in zip(tables.KINDS, whole):
+                found = tables.read(kind, octets, PLAIN, room)
+                names = wanted.rows.dtype.names
+                self.assertEqual((values(found.rows, *names), found[1:]), (values(wanted.rows, *names), wanted[1:]))
+
+    def test_ip6(self):
+        """IPv6 routes that the context doesn't have are reported, wherever they are; what looks like them in a ROUTE-REFRESH isn't."""
+        terms, lost = ristulva.Terms(NO_IP6, 1), update(ORIGIN + PATH + REACH)
+        like = message(5, "00010001" + "0e1a00020110")
+        for octets in (lost, REQUEST + lost, like + lost, lost + like, KEEPALIVE + like + like + update() + lost):
+            self.assertEqual(told(octets, terms)[1], [ristulva.FamilyNotAgreed])
+        for octets in (like, KEEPALIVE + like + SECOND, like * 9):
+            self.assertEqual(told(octets, terms)[1], [])
+
+    def test_message(self):
+        """From a row to its message, and to a ROUTE-REFRESH at its offset."""
+        table = ristulva.table(FIRST + BEGIN + SECOND, ENHANCED)
+        place = table.routes["message"][-1]
+        self.assertEqual((table.message(place), table.message(place).verdict), (ristulva.judge(SECOND, ENHANCED, int(place)), "withdraw"))
+        self.assertEqual(table.message(len(FIRST)).refresh(), ristulva.Refresh(1, 1, ristulva.Subtype.BEGIN, b""))
+
+    def test_paths(self):
+        """Nothing is read where routes have path identifiers, whatever the octets are."""
+        for terms in (ristulva.Terms(FOUR, paths4=True), ristulva.Terms(FOUR, 2, paths6=True)):
+            for octets in (b"", STREAM, REQUEST):
+                self.assertRaisesRegex(ValueError, "path identifiers", ristulva.table, octets, terms)
 
 
 @unittest.skipUnless(HAS_NUMPY, "needs numpy")

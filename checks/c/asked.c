@@ -280,6 +280,7 @@ static void by_hand_nothing(void)
     ristulva_open_fields fields;
     ristulva_span span = {0, 0}, hop;
     ristulva_decoder decoder = {NULL};
+    ristulva_stream stream = {NULL};
     ristulva_context agreed;
     struct octets keepalive;
     uint32_t number;
@@ -302,6 +303,7 @@ static void by_hand_nothing(void)
     WANT(ristulva_open(NULL, 0, &fields) == RISTULVA_INCOMPLETE && ristulva_agree(NULL, 0, NULL, 0, &agreed, &hold) == RISTULVA_INCOMPLETE);
     WANT(ristulva_next_capability(NULL, 0, &capabilities, &capability) == RISTULVA_END);
     WANT(ristulva_decoder_pull(&decoder, NULL, 0, NULL, 0, NULL, 0, &count, &verdict) != RISTULVA_OK);
+    WANT(ristulva_stream_pull(&stream, NULL, 0, NULL, 0, NULL, 0, &count, &verdict) != RISTULVA_OK);
     make(&keepalive, 4, "");
     WANT(ristulva_judge(&context, keepalive.at, keepalive.len, NULL, 0, &verdict) == RISTULVA_OK && verdict.verdict == RISTULVA_KEEPALIVE);
     WANT(ristulva_notes(&context, keepalive.at, keepalive.len, NULL, 0, &count) == RISTULVA_OK && count == 0);

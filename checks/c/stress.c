@@ -4,8 +4,8 @@
  *
  * The files have streams of octets, of which some are changed at random. Built with the sanitizers it also shows that nothing is
  * written outside of what a call is given; octets lie beside memory that can't be read. It runs on STACK octets of stack, which
- * are 32 KB, and on 24 KB more with ristulva_clean and guards. Blocks of memory are counted: a session, a decoder and a guard give
- * theirs back when they are freed, and no other call leaves any. It prints how many calls it made, and ends with 1 at the first
+ * are 32 KB, and on 24 KB more with ristulva_clean and guards. Blocks of memory are counted: a session, a decoder, a stream and a guard
+ * give theirs back when they are freed, and no other call leaves any. It prints how many calls it made, and ends with 1 at the first
  * answer that the header doesn't allow. */
 #include "ristulva.h"
 #include "trial.h"
@@ -501,6 +501,38 @@ static void try_decoder(const ristulva_context *context, const uint8_t *octets, 
     WANT(ristulva_decoder_free(&decoder) == RISTULVA_OK && live == kept);
 }
 
+/* A stream by terms that gets the octets in two pieces reports what ristulva_judge_in does of the first message. */
+static void try_stream(const ristulva_context *context, const uint8_t *octets, size_t len)
+{
+    static uint8_t message[RISTULVA_MESSAGE + 1], data[RISTULVA_DATA + 1], wanted[RISTULVA_DATA];
+    const ristulva_terms terms = {*context, (uint8_t)below(3), (uint8_t)below(2), (uint8_t)below(256), 0, 0, (uint8_t)below(2)};
+    size_t cut = below((uint32_t)len + 1), taken = 77, more = 0, size;
+    ristulva_stream stream = {NULL};
+    ristulva_verdict told, verdict;
+    ristulva_status status, judged;
+    memset(&told, 0xa5, sizeof told);
+    memset(&verdict, 0xa5, sizeof verdict);
+    memset(message, 0x5a, sizeof message);
+    memset(data, 0x5a, sizeof data);
+    judged = ristulva_judge_in(&terms, octets, len, wanted, sizeof wanted, &verdict);
+    WANT(judged == RISTULVA_OK || judged == RISTULVA_INCOMPLETE);
+    WANT(ristulva_stream_new(&terms, &stream) == RISTULVA_OK);
+    status = ristulva_stream_pull(&stream, octets, cut, message, RISTULVA_MESSAGE, data, RISTULVA_DATA, &taken, &told);
+    if (status == RISTULVA_INCOMPLETE) {
+        WANT(taken == cut && told.verdict == 0xa5 && message[0] == 0x5a);
+        status = ristulva_stream_pull(&stream, octets + cut, len - cut, message, RISTULVA_MESSAGE, data, RISTULVA_DATA, &more, &told);
+    }
+    calls += 3;
+    WANT(status == judged);
+    size = status == RISTULVA_INCOMPLETE ? len : verdict.kind == 0 ? 19 : verdict.len;
+    WANT(taken + more == size);
+    if (status == RISTULVA_OK) {
+        WANT(memcmp(&told, &verdict, sizeof told) == 0 && memcmp(message, octets, size) == 0 && message[size] == 0x5a);
+        WANT(memcmp(data, wanted, verdict.data_len) == 0 && data[verdict.data_len] == 0x5a);
+    }
+    WANT(ristulva_stream_free(&stream) == RISTULVA_OK && live == kept);
+}
+
 /* ---- sessions ---- */
 
 static ristulva_session session;
@@ -686,6 +718,7 @@ static void try_all(const uint8_t *from, size_t len)
         try_guard(octets, len);
     }
     try_decoder(&context, octets, len, &found, &verdict);
+    try_stream(&context, octets, len);
     try_session(octets, len, &found);
     if (found.what == RISTULVA_FOUND && verdict.kind == 2) {
         ristulva_prefixes gone = {verdict.parts.withdrawn.at, verdict.parts.withdrawn.at + verdict.parts.withdrawn.len, 1};

@@ -8,8 +8,8 @@ import typing
 import weakref
 from ctypes import c_size_t
 
-from .library import DATA, HEADER, LIBRARY, MESSAGE, STATE, Handle, Verdict
-from .message import Context, Message, check
+from .library import DATA, HEADER, LIBRARY, MESSAGE, RANGE, STATE, Handle, Verdict
+from .message import PATHS, Context, Message, Terms, check
 
 UNTOLD = c_size_t(-1).value  # more octets than any call consumes
 
@@ -38,18 +38,25 @@ class Stand(typing.NamedTuple):
 
 
 class Decoder:
-    """Reads a stream in whatever pieces its octets arrive, and gives what `messages` gives of the whole. It holds at most one message.
+    """Reads a stream in whatever pieces its octets arrive, and gives what `messages` gives of the whole. It holds at most one message. By Terms a
+    ROUTE-REFRESH is a message where its reader offers it, and ValueError is raised where routes have path identifiers.
 
-    It is memory, some 4.2 KB of the library's and 8 KB beside. What is the library's is freed when it is closed, at the end of a `with`, or when
+    It is memory, some 4.5 KB of the library's and 8 KB beside. What is the library's is freed when it is closed, at the end of a `with`, or when
     nothing refers to it any more. Threads may share it: each call takes its turn, and a caller that feeds from several threads decides on the order."""
 
-    def __init__(self, context: Context) -> None:
+    def __init__(self, context: typing.Union[Context, Terms]) -> None:
         self._lock, self._handle, self._context = threading.RLock(), Handle(), context
+        by_terms = isinstance(context, Terms)
+        self._kind = "stream" if by_terms else "decoder"
         self._stand = Stand()
         self._found: list[Message] = []
         self._message, self._data = ctypes.create_string_buffer(MESSAGE), ctypes.create_string_buffer(DATA)
-        check(LIBRARY.ristulva_decoder_new(context.said(), self._handle))
-        self._free = weakref.finalize(self, LIBRARY.ristulva_decoder_free, self._handle)
+        make = LIBRARY.ristulva_stream_new if by_terms else LIBRARY.ristulva_decoder_new
+        status: int = make(context.said(), self._handle)
+        if status == RANGE:
+            raise ValueError(PATHS)
+        check(status)
+        self._free = weakref.finalize(self, LIBRARY.ristulva_stream_free if by_terms else LIBRARY.ristulva_decoder_free, self._handle)
 
     def close(self) -> None:
         """Frees it, and what it holds; once more does nothing. Each other call raises DecoderClosed then."""
@@ -76,7 +83,7 @@ class Decoder:
     def _call(self, name: str, *arguments: object) -> int:
         """The status of a call on the handle."""
         self._check_open()
-        status: int = getattr(LIBRARY, f"ristulva_decoder_{name}")(self._handle, *arguments)
+        status: int = getattr(LIBRARY, f"ristulva_{self._kind}_{name}")(self._handle, *arguments)
         return status
 
     def feed(self, piece: typing.Union[bytes, bytearray, memoryview]) -> list[Message]:

@@ -11,7 +11,7 @@ from ctypes import POINTER, Structure, c_char_p, c_size_t, c_uint8, c_uint16, c_
 OK, NO_SESSION, MEMORY, RANGE, INCOMPLETE, ROOM, END, REFUSED, UNWRITABLE, STATE, CONFIG, IN_USE, MIXED = range(13)
 # The first two numbers of the versions whose header this file has: while the first is 0, a new second one may change any call.
 SERIES = (0, 4)
-DATA, MESSAGE, HEADER, ACTIONS, BATCH, PARTS = 4075, 4096, 19, 5, 4073, 12288
+DATA, MESSAGE, HEADER, ACTIONS, BATCH, PARTS, REFRESH_MESSAGE = 4075, 4096, 19, 5, 4073, 12288, 23
 
 
 class Span(Structure):
@@ -22,6 +22,13 @@ class Said(Structure):
     """What both speakers agreed on, in C's form."""
 
     _fields_ = [("internal", c_uint8), ("as4", c_uint8), ("ip4", c_uint8), ("ip6", c_uint8)]
+
+
+class SaidTerms(Structure):
+    """What holds for one direction of a session, in C's form."""
+
+    _fields_ = [("context", Said), ("refresh", c_uint8), ("long_messages", c_uint8), ("long_back", c_uint8), ("paths4", c_uint8), ("paths6", c_uint8),
+                ("hop6", c_uint8)]
 
 
 class Verdict(Structure):
@@ -91,6 +98,10 @@ class COpen(Structure):
                 ("ip6", c_uint8), ("capabilities", Capabilities)]
 
 
+class CRefresh(Structure):
+    _fields_ = [("afi", c_uint16), ("safi", c_uint8), ("subtype", c_uint8), ("rest", Span)]
+
+
 class CConfig(Structure):
     _fields_ = [("local_as", c_uint32), ("peer_as", c_uint32), ("id", c_uint8 * 4), ("hold", c_uint16), ("as4", c_uint8), ("ip4", c_uint8),
                 ("ip6", c_uint8)]
@@ -140,7 +151,7 @@ class CRoute(Structure):
 
 
 class Handle(Structure):
-    """The handle of a session or of a decoder: None where it has none."""
+    """The handle of a session, a decoder or a stream: None where it has none."""
 
     _fields_ = [("body", c_void_p)]
 
@@ -161,7 +172,7 @@ def place() -> str:
 # Calls that take no longer than releasing and taking Python's lock again: they keep it.
 SHORT = (
     "next_attribute", "next_prefix", "next_route", "next_segment", "next_number", "next_large_community", "next_capability", "reached", "unreached", "open", "judge",
-    "facts", "begin_routes", "agree", "name", "session_state", "session_context",
+    "facts", "begin_routes", "agree", "name", "session_state", "session_context", "terms_of", "judge_in", "refresh_in", "encode_refresh",
 )
 
 
@@ -202,7 +213,7 @@ def load() -> tuple[Library, int]:
     buffer: list[typing.Any] = [c_char_p, c_size_t]
     # Rows of numpy and octets anywhere in a buffer are passed by their addresses.
     batch = [POINTER(Said), c_void_p, c_size_t, c_void_p, c_size_t, POINTER(c_size_t), POINTER(c_size_t)]
-    session = decoder = POINTER(Handle)
+    session = decoder = stream = POINTER(Handle)
     takes = {
         "judge": [POINTER(Said), *octets, *buffer, POINTER(Verdict)],
         "notes": [POINTER(Said), *octets, POINTER(CNote), c_size_t, POINTER(c_size_t)],
@@ -214,6 +225,11 @@ def load() -> tuple[Library, int]:
         "communities_of": batch,
         "large_communities_of": batch,
         "agree": [*octets, *octets, POINTER(Said), POINTER(c_uint16)],
+        "terms_of": [*octets, *octets, POINTER(SaidTerms), POINTER(c_uint16)],
+        "judge_in": [POINTER(SaidTerms), *octets, *buffer, POINTER(Verdict)],
+        "text_in": [POINTER(SaidTerms), c_uint64, *octets, *buffer, POINTER(c_size_t)],
+        "refresh_in": [POINTER(SaidTerms), *octets, POINTER(CRefresh)],
+        "encode_refresh": [c_uint16, c_uint8, c_uint8, *buffer, POINTER(c_size_t)],
         "name": [c_uint8, c_uint8, c_uint8, *buffer, POINTER(c_size_t)],
         "fields": [POINTER(Said), *octets, POINTER(CField), c_size_t, POINTER(c_size_t)],
         "fault": [POINTER(Said), *octets, POINTER(Span)],
@@ -238,6 +254,10 @@ def load() -> tuple[Library, int]:
         "decoder_free": [decoder],
         "decoder_pull": [decoder, *octets, *buffer, *buffer, POINTER(c_size_t), POINTER(Verdict)],
         "decoder_held": [decoder, POINTER(c_size_t)],
+        "stream_new": [POINTER(SaidTerms), stream],
+        "stream_free": [stream],
+        "stream_pull": [stream, *octets, *buffer, *buffer, POINTER(c_size_t), POINTER(Verdict)],
+        "stream_held": [stream, POINTER(c_size_t)],
         "session_new": [POINTER(CConfig), session],
         "session_free": [session],
         "session_state": [session, POINTER(c_uint8)],

@@ -6,6 +6,7 @@ from __future__ import annotations
 
 import ctypes
 import dataclasses
+import enum
 import ipaddress
 import typing
 import warnings
@@ -14,18 +15,20 @@ from ctypes import c_size_t, c_uint16, c_uint32
 from .facts import Facts, facts_of
 from .field import Field, fault_of, fault_section_of, fields_of, note_section_of
 from .library import (
-    DATA, HEADER, INCOMPLETE, LIBRARY, MEMORY, MESSAGE, MIXED, OK, PARTS, RANGE, REFUSED, ROOM, STATE, UNWRITABLE, Attributes, CAttribute, CCapability,
-    CCleaned, CFacts, CLargeCommunity, CNote, COpen, CPrefix, CRoute, CSegment, LargeCommunities, Numbers, Prefixes, RouteCursor, Said, Segments, Span,
-    Verdict,
+    DATA, HEADER, INCOMPLETE, LIBRARY, MEMORY, MESSAGE, MIXED, OK, PARTS, RANGE, REFRESH_MESSAGE, REFUSED, ROOM, STATE, UNWRITABLE, Attributes, CAttribute,
+    CCapability, CCleaned, CFacts, CLargeCommunity, CNote, COpen, CPrefix, CRefresh, CRoute, CSegment, LargeCommunities, Numbers, Prefixes, RouteCursor,
+    Said, SaidTerms, Segments, Span, Verdict,
 )
 
 WHYS = ("Flags", "Length", "Value", "SegmentType", "SegmentCount", "SegmentEnd", "Repeated", "External", "FourOctet", "Family", "Unneeded", "Emptied",
         "Cut", "Missing", "AsZero")
+ROUTE_REFRESH = 5  # the type of the message
+PATHS = "routes have path identifiers, which no call reads"  # why no message can be judged by some Terms
 ENDS = {0: None, 1: "reset", 2: "late open", 3: "no family"}
 Octets = typing.Union[bytes, bytearray, memoryview]
 Prefix = typing.Union[ipaddress.IPv4Network, ipaddress.IPv6Network]
 
-VERDICTS = {1: "open", 2: "update", 3: "notification", 4: "keepalive", 5: "withdraw", 6: "reset"}
+VERDICTS = {1: "open", 2: "update", 3: "notification", 4: "keepalive", 5: "withdraw", 6: "reset", 7: "refresh"}
 
 
 @dataclasses.dataclass(frozen=True)
@@ -44,6 +47,44 @@ class Context:
 
     def said(self) -> Said:
         return Said(self.internal, self.as4, self.ip4, self.ip6)
+
+
+class Refreshes(enum.IntEnum):
+    """Which ROUTE-REFRESH a reader accepts."""
+
+    NONE = 0  # none: it doesn't offer it (capability 2)
+    PLAIN = 1  # requests (RFC 2918)
+    ENHANCED = 2  # and the marks where a refresh begins and ends, which both offer (capability 70; RFC 7313)
+
+
+class Subtype(enum.IntEnum):
+    """The subtypes of a ROUTE-REFRESH. Each other one has no effect (RFC 7313, section 5)."""
+
+    REQUEST = 0  # the routes of the family are asked for (RFC 2918, section 3)
+    BEGIN = 1  # a refresh begins (BoRR; RFC 7313, section 3.2)
+    END = 2  # a refresh ends (EoRR)
+
+
+@dataclasses.dataclass(frozen=True)
+class Terms:
+    """What both speakers agreed on for one direction of their session, from a sender to a reader: the sender's messages are read by it. `refresh` is one
+    of Refreshes; of each other value but the context its truth counts. A message has at most MESSAGE octets, whatever is agreed on."""
+
+    context: Context = Context()
+    refresh: int = Refreshes.NONE
+    long_messages: bool = False  # the reader accepts messages of up to 65535 octets (capability 6; RFC 8654)
+    long_back: bool = False  # the sender does: NOTIFICATIONs to it may be that long
+    paths4: bool = False  # IPv4 unicast routes have path identifiers (capability 69; RFC 7911), and no message can be judged
+    paths6: bool = False  # IPv6 unicast routes have path identifiers, and no message can be judged
+    hop6: bool = False  # IPv4 unicast routes may have an IPv6 next hop (capability 5; RFC 8950)
+
+    def __post_init__(self) -> None:
+        object.__setattr__(self, "refresh", Refreshes(self.refresh))
+        for name in ("long_messages", "long_back", "paths4", "paths6", "hop6"):
+            object.__setattr__(self, name, bool(getattr(self, name)))
+
+    def said(self) -> SaidTerms:
+        return SaidTerms(self.context.said(), self.refresh, self.long_messages, self.long_back, self.paths4, self.paths6, self.hop6)
 
 
 class Refused(Exception):
@@ -109,6 +150,16 @@ class Open:
 
 
 @dataclasses.dataclass(frozen=True)
+class Refresh:
+    """What a ROUTE-REFRESH says (RFC 2918, section 3; RFC 7313, section 3.2)."""
+
+    afi: int  # the address family
+    safi: int  # the subsequent address family
+    subtype: int  # one of Subtype, or another number; always REQUEST where only requests are accepted, since the octet is reserved there
+    rest: bytes  # what follows the four octets, without effect: entries of route filters (RFC 5291, section 4)
+
+
+@dataclasses.dataclass(frozen=True)
 class Cleaned:
     """The result of cleaning a message."""
 
@@ -135,10 +186,15 @@ def prefix_of(it: CPrefix) -> Prefix:
 
 
 class Message:
-    """A message that was judged, or a header with a fault. Two are equal where their octets, contexts, offsets and verdicts are."""
+    """A message that was judged, or a header with a fault. Two are equal where their octets, contexts or terms, offsets and verdicts are.
 
-    def __init__(self, octets: bytes, context: Context, place: int, verdict: Verdict, data: bytes) -> None:
-        self.octets, self.context, self.place = octets, context, place
+    `terms` is None where it was judged in a context. A ROUTE-REFRESH, which only terms have, has neither fields nor a section: these calls, and `clean`,
+    raise ValueError."""
+
+    def __init__(self, octets: bytes, context: typing.Union[Context, Terms], place: int, verdict: Verdict, data: bytes) -> None:
+        self.terms = context if isinstance(context, Terms) else None
+        self.context = context.context if isinstance(context, Terms) else context
+        self.octets, self.place = octets, place
         self.found, self.data = verdict, data
 
     def __repr__(self) -> str:
@@ -146,7 +202,7 @@ class Message:
 
     def _known(self) -> tuple[typing.Any, ...]:
         """All that makes it what it is."""
-        return self.octets, self.context, self.place, bytes(self.found), self.data
+        return self.octets, self.terms or self.context, self.place, bytes(self.found), self.data
 
     def __eq__(self, other: object) -> bool:
         if not isinstance(other, Message):
@@ -174,12 +230,23 @@ class Message:
         said = self.verdict in ("notification", "reset")
         return (self.found.code, self.found.subcode, self.data) if said else None
 
+    def _is_refresh(self) -> bool:
+        """Whether it is a ROUTE-REFRESH, accepted or not: in a context that is a bad message type."""
+        return self.terms is not None and self.found.kind == ROUTE_REFRESH
+
+    def _said(self) -> Said:
+        """The context, for a call that would report a ROUTE-REFRESH as a bad message type."""
+        if self._is_refresh():
+            raise ValueError("a ROUTE-REFRESH has neither fields nor a section, and isn't cleaned")
+        return self.context.said()
+
     def __str__(self) -> str:
         """The lines that `bgp show` prints."""
+        call, by = (LIBRARY.ristulva_text, self.context.said()) if self.terms is None else (LIBRARY.ristulva_text_in, self.terms.said())
         room, written = 4096, c_size_t()
         while True:
             text = ctypes.create_string_buffer(room)
-            status = LIBRARY.ristulva_text(self.context.said(), self.place, self.octets, len(self.octets), text, room, written)
+            status = call(by, self.place, self.octets, len(self.octets), text, room, written)
             if status == MEMORY:
                 raise MemoryError
             if status != ROOM:
@@ -195,6 +262,13 @@ class Message:
         capabilities = [(one.code, self.octets[one.value.at : one.value.at + one.value.len]) for one in found]
         return Open(it.as_number, it.as_field, it.hold, ipaddress.IPv4Address(bytes(it.id)), bool(it.as4), bool(it.ip4), bool(it.ip6), capabilities)
 
+    def refresh(self) -> typing.Optional[Refresh]:
+        """What an accepted ROUTE-REFRESH says; None for any other message."""
+        it = CRefresh()
+        if self.terms is None or LIBRARY.ristulva_refresh_in(self.terms.said(), self.octets, len(self.octets), it) != OK:
+            return None
+        return Refresh(it.afi, it.safi, it.subtype, self.octets[it.rest.at : it.rest.at + it.rest.len])
+
     def notes(self) -> list[tuple[int, int, str]]:
         """What RFC 7606 found: of each note the attribute's offset in the message (0 where it is missing), its type, and one of WHYS."""
         notes, count = (CNote * 8)(), c_size_t()
@@ -204,15 +278,15 @@ class Message:
 
     def fields(self) -> list[Field]:
         """All its fields, in their order: their octets joined are the message, whatever it is. Where it is accepted without a note none is "Unread"."""
-        return fields_of(self.octets, self.context.said())
+        return fields_of(self.octets, self._said())
 
     def fault(self) -> typing.Optional[tuple[int, int]]:
         """For which of its octets the session ends: their offset in the message, and their number. None where it isn't a "reset"."""
-        return fault_of(self.octets, self.context.said())
+        return fault_of(self.octets, self._said())
 
     def fault_section(self) -> str:
         """The section of an RFC by which the session ends, as `bgp explain` prints it; "own rule" where no RFC has the rule. Empty where it isn't a "reset"."""
-        return fault_section_of(self.octets, self.context.said())
+        return fault_section_of(self.octets, self._said())
 
     def clean(self, first: bool = False, types: typing.Iterable[int] = ()) -> Cleaned:
         """The octets of what may be passed on of it to a receiver, which learns from it what RFC 7606 has the receiver of the message learn: of one message,
@@ -226,7 +300,7 @@ class Message:
         left_out = bytes(iter(types))
         message, written, told = ctypes.create_string_buffer(PARTS), c_size_t(), CCleaned()
         check(LIBRARY.ristulva_clean(
-            self.context.said(), left_out, len(left_out), bool(first), self.octets, len(self.octets), message, PARTS, written, told))
+            self._said(), left_out, len(left_out), bool(first), self.octets, len(self.octets), message, PARTS, written, told))
         return Cleaned(ctypes.string_at(message, written.value), ENDS[told.ends], told.discarded, told.left_out, told.capabilities)
 
     def attributes(self) -> list[Attribute]:
@@ -319,7 +393,7 @@ class Message:
         return [(it.numbers[0], it.numbers[1], it.numbers[2]) for it in each("next_large_community", self.octets, LargeCommunities(at, at, end), CLargeCommunity())]
 
 
-def restored(octets: bytes, context: Context, place: int, found: bytes, data: bytes) -> Message:
+def restored(octets: bytes, context: typing.Union[Context, Terms], place: int, found: bytes, data: bytes) -> Message:
     """A message as it was pickled or copied."""
     return Message(octets, context, place, Verdict.from_buffer_copy(found), data)
 
@@ -335,23 +409,28 @@ def part(octets: typing.Any, at: int) -> bytes:
     return bytes(memoryview(octets)[at : at + MESSAGE])
 
 
-def judged(octets: bytes, context: Context, place: int) -> typing.Optional[Message]:
+def judged(octets: bytes, context: typing.Union[Context, Terms], place: int) -> typing.Optional[Message]:
     """The message that some bytes begin with, or None where they are less than one."""
     verdict, data = Verdict(), ctypes.create_string_buffer(DATA)
-    if LIBRARY.ristulva_judge(context.said(), octets, len(octets), data, DATA, verdict) == INCOMPLETE:
+    call = LIBRARY.ristulva_judge_in if isinstance(context, Terms) else LIBRARY.ristulva_judge
+    status = call(context.said(), octets, len(octets), data, DATA, verdict)
+    if status == INCOMPLETE:
         return None
+    if status == RANGE:
+        raise ValueError(PATHS)
     return Message(octets[: verdict.len or HEADER], context, place, verdict, ctypes.string_at(data, verdict.data_len))
 
 
-def judge(octets: typing.Any, context: Context, place: int = 0) -> typing.Optional[Message]:
+def judge(octets: typing.Any, context: typing.Union[Context, Terms], place: int = 0) -> typing.Optional[Message]:
     """The message that octets begin with, or None where they are less than one. Of a header with a fault it has the 19 octets of the header.
 
-    `octets` is bytes or another buffer, which is read octet by octet, whatever its elements are."""
+    `octets` is bytes or another buffer, which is read octet by octet, whatever its elements are. By Terms a ROUTE-REFRESH is a message where its reader
+    offers it, and ValueError is raised where routes have path identifiers."""
     return judged(part(in_octets(octets), 0), context, place)
 
 
-def messages(octets: typing.Any, context: Context) -> typing.Iterator[Message]:
-    """The messages of a stream, up to the first that ends the session. `octets` is a buffer, as for `judge`.
+def messages(octets: typing.Any, context: typing.Union[Context, Terms]) -> typing.Iterator[Message]:
+    """The messages of a stream, up to the first that ends the session. `octets` is a buffer, and a context or terms are as for `judge`.
 
     Where the stream ends inside a message, a warning `Incomplete` has the number of its octets."""
     octets, place = in_octets(octets), 0
@@ -379,6 +458,17 @@ def agree(ours: typing.Any, theirs: typing.Any) -> typing.Optional[tuple[Context
     if LIBRARY.ristulva_agree(one, len(one), other, len(other), said, hold) != OK:
         return None
     return Context(said.internal, said.as4, said.ip4, said.ip6), hold.value
+
+
+def terms_of(reader: typing.Any, sender: typing.Any) -> typing.Optional[tuple[Terms, int]]:
+    """What holds for the messages that a reader receives from a sender, given octets that begin with the OPEN of each: the terms, and the Hold Time in
+    seconds, 0 for none. None where one of them isn't an accepted OPEN. Neither is refused for what it says."""
+    said, hold = SaidTerms(), c_uint16()
+    one, other = part(in_octets(reader), 0), part(in_octets(sender), 0)
+    if LIBRARY.ristulva_terms_of(one, len(one), other, len(other), said, hold) != OK:
+        return None
+    context = Context(said.context.internal, said.context.as4, said.context.ip4, said.context.ip6)
+    return Terms(context, said.refresh, said.long_messages, said.long_back, said.paths4, said.paths6, said.hop6), hold.value
 
 
 def directions(ours: typing.Any, theirs: typing.Any) -> tuple[typing.Iterator[Message], typing.Iterator[Message]]:
@@ -411,3 +501,12 @@ def narrow(body: Octets, context: Context) -> bytes:
 def reconcile(body: Octets, context: Context) -> bytes:
     """The UPDATE of a session with AS numbers of two octets, as speakers with four see it."""
     return rewritten("reconcile", body, context)
+
+
+def encode_refresh(afi: int, safi: int, subtype: int = Subtype.REQUEST) -> bytes:
+    """The message of a ROUTE-REFRESH for a family. ValueError: a number has no room in its field."""
+    if not (0 <= afi <= 0xFFFF and 0 <= safi <= 0xFF and 0 <= subtype <= 0xFF):
+        raise ValueError("an AFI has two octets, a SAFI and a subtype have one")
+    message, written = ctypes.create_string_buffer(REFRESH_MESSAGE), c_size_t()
+    LIBRARY.ristulva_encode_refresh(afi, safi, subtype, message, REFRESH_MESSAGE, written)
+    return ctypes.string_at(message, written.value)

@@ -9,7 +9,7 @@ import warnings
 from ctypes import c_size_t
 
 from .library import BATCH, INCOMPLETE, LIBRARY, OK, REFUSED, RouteCursor
-from .message import Context, FamilyNotAgreed, Incomplete, Message, Prefix, judge
+from .message import Context, FamilyNotAgreed, Incomplete, Message, Prefix, Terms, judge
 
 if typing.TYPE_CHECKING:
     import numpy
@@ -34,6 +34,7 @@ KINDS: dict[str, tuple[str, int, dict[str, tuple[typing.Any, int]]]] = {
         "message": ("u8", 0), "global": ("u4", 8), "local1": ("u4", 12), "local2": ("u4", 16),
     }),
 }
+By = typing.Union[Context, Terms]
 # The number of octets that are searched at a time for what may be IPv6 routes.
 PIECE = 1 << 18
 
@@ -91,21 +92,34 @@ def estimated(kind: str, octets: Array, context: Context) -> int:
     return room_for(rows, taken, octets.size if status == OK else taken)
 
 
-def read(kind: str, octets: Array, context: Context, step: int = 0) -> Batch:
-    """Reads messages into rows, up to one that resets the session or is incomplete. `step` is the number of rows with room at each call; where it is 0
-    nearly always one call is enough."""
+def passed_over(octets: Array, terms: Terms) -> tuple[int, int]:
+    """The length of an accepted ROUTE-REFRESH that octets begin with, and OK; of another message 0, and INCOMPLETE or REFUSED, as by the terms it is."""
+    it = judge(octets, terms)
+    if it is None:
+        return 0, INCOMPLETE
+    return (len(it), OK) if it.verdict == "refresh" else (0, REFUSED)
+
+
+def read(kind: str, octets: Array, by: By, step: int = 0) -> Batch:
+    """Reads messages into rows, up to one that resets the session or is incomplete. By terms an accepted ROUTE-REFRESH, at which each call ends, has no
+    rows. `step` is the number of rows with room at each call; where it is 0 nearly always one call is enough between two of these."""
     import numpy
 
+    context = by.context if isinstance(by, Terms) else by
     rows: Rows = numpy.empty(step or estimated(kind, octets, context), form_of(kind))
     count = taken = 0
     while True:
         more, further, status = written(kind, octets[taken:], context, rows[count:])
         if taken:
             rows["message"][count : count + more] += taken
-        count, taken = count + more, taken + further
+        count, taken, is_full = count + more, taken + further, status == OK
+        if status == REFUSED and isinstance(by, Terms):
+            further, status = passed_over(octets[taken:], by)
+            taken += further
         if status != OK or taken == octets.size:
             break
-        rows.resize(count + (step or max(room_for(count, taken, octets.size - taken), count // 4)), refcheck=False)
+        if is_full or rows.size < count + BATCH:
+            rows.resize(count + (step or max(room_for(count, taken, octets.size - taken), count // 4)), refcheck=False)
     rows.resize(count, refcheck=False)
     return Batch(rows, taken, status)
 
@@ -149,15 +163,17 @@ class Table:
     The stream's octets aren't copied: they have to stay as they are while more is read of them, and a file that is mapped can be closed once nothing
     refers to its table any more. Threads may share it."""
 
-    def __init__(self, octets: typing.Any, context: Context) -> None:
+    def __init__(self, octets: typing.Any, context: By) -> None:
         whole = view_of(octets)
+        judge(b"", context)  # which refuses terms with path identifiers
         batch = read("routes", whole, context)
-        self.context = context
+        self.terms = context if isinstance(context, Terms) else None  # None where it was read in a context
+        self.context = context.context if isinstance(context, Terms) else context
         self.taken = batch.taken  # the total length of the messages that were read
         self.rest = whole.size - batch.taken  # and the number of octets after these: 0 where all was read
         # The message that resets the session, or the header with a fault; None where there is none.
         self.reset = judge(whole[batch.taken :], context, batch.taken) if batch.status == REFUSED else None
-        self._octets, self._rows = whole, {"routes": batch.rows}
+        self._octets, self._by, self._rows = whole, context, {"routes": batch.rows}
 
     def __repr__(self) -> str:
         return f"<ristulva.Table: {self.routes.size} routes in {self.taken} octets>"
@@ -166,7 +182,7 @@ class Table:
         """The rows of a kind, which are read where that wasn't done. Threads that ask at one time may both read: all get the same rows."""
         rows = self._rows.get(kind)
         if rows is None:
-            rows = self._rows.setdefault(kind, read(kind, self._octets[: self.taken], self.context).rows)
+            rows = self._rows.setdefault(kind, read(kind, self._octets[: self.taken], self._by).rows)
         return rows
 
     @property
@@ -197,15 +213,16 @@ class Table:
 
     def message(self, place: int) -> Message:
         """The message that begins at an offset, which a row's field `message` is."""
-        found = judge(self._octets[place:], self.context, int(place))
+        found = judge(self._octets[place:], self._by, int(place))
         if found is None:
             raise ValueError(f"no message begins at octet {place}")
         return found
 
 
-def table(octets: typing.Any, context: Context) -> Table:
+def table(octets: typing.Any, context: By) -> Table:
     """The routes of a stream, and what is reported of them, up to the first message that resets the session. `octets` is bytes or any other buffer, as a
-    mapped file; it isn't copied. It needs numpy.
+    mapped file; it isn't copied. It needs numpy. By Terms a ROUTE-REFRESH that its reader accepts has no rows, and what follows it is read; ValueError is
+    raised where routes have path identifiers.
 
     Where the stream ends inside a message, a warning `Incomplete` has the number of its octets. Where a message resets the session, a warning
     `Reset` says where, and `Table.reset` is that message. Where UPDATEs have attributes of IPv6 unicast, and the context no `ip6`,
@@ -219,7 +236,7 @@ def table(octets: typing.Any, context: Context) -> Table:
         warnings.warn(f"the message at octet {found.taken} resets the session: {found.rest} octets aren't read", Reset, stacklevel=2)
     elif found.rest:
         warnings.warn(f"the stream ends inside a message, of which it has {found.rest} octets", Incomplete, stacklevel=2)
-    if not context.ip6 and loses_ip6(found._octets[: found.taken], context, found.routes["message"].copy()):
+    if not found.context.ip6 and loses_ip6(found._octets[: found.taken], found.context, found.routes["message"].copy()):
         warnings.warn("an UPDATE has attributes of IPv6 unicast, and its context no ip6", FamilyNotAgreed, stacklevel=2)
     return found
 

@@ -1,5 +1,5 @@
 use crate::message::told;
-use crate::{raw, Context, Error, Message, MESSAGE};
+use crate::{raw, Context, Error, Message, MessageIn, Terms, MESSAGE};
 use std::fmt;
 
 /// Reads the messages of a stream whose octets arrive in pieces, however it is cut (RFC 4271,
@@ -84,6 +84,90 @@ impl fmt::Debug for Decoder {
     fn fmt(&self, f: &mut fmt::Formatter<'_>) -> fmt::Result {
         f.debug_struct("Decoder")
             .field("context", &self.context)
+            .field("held", &self.held())
+            .finish_non_exhaustive()
+    }
+}
+
+/// Reads the messages of a stream by terms, whose octets arrive in pieces, as a [`Decoder`] does in a
+/// context.
+///
+/// What it gives is what [`messages_in`](crate::messages_in) gives of the whole stream, and after a
+/// message by which the session [ends](MessageIn::is_reset) it reads nothing.
+///
+/// ```
+/// use ristulva::{encode_refresh, DecoderIn, MessageIn, Refreshes, Subtype, Terms};
+///
+/// let terms = Terms { refresh: Refreshes::Plain, ..Terms::default() };
+/// let stream = encode_refresh(2, 1, Subtype::Request).repeat(3);
+/// let mut decoder = DecoderIn::new(&terms)?;
+/// let mut count = 0;
+/// for mut piece in stream.chunks(10) {
+///     while let Some(message) = decoder.pull(&mut piece) {
+///         assert!(matches!(message, MessageIn::Refresh(_)));
+///         assert_eq!(message.offset(), count * 23);
+///         count += 1;
+///     }
+/// }
+/// assert_eq!((count, decoder.held()), (3, 0));
+/// # Ok::<(), ristulva::Error>(())
+/// ```
+///
+/// ```compile_fail,E0277
+/// fn is_shared<T: Sync>() {}
+/// is_shared::<ristulva::DecoderIn>();
+/// ```
+pub struct DecoderIn {
+    stream: raw::Stream,
+    terms: Terms,
+    /// The buffers of the pulled message, and of the data of a NOTIFICATION.
+    message: Box<raw::Room>,
+    data: Box<raw::Data>,
+    offset: u64,
+}
+
+impl DecoderIn {
+    /// A decoder at the beginning of a stream, by the terms of its direction.
+    ///
+    /// # Errors
+    ///
+    /// [`Error::Memory`] or [`Error::Paths`].
+    pub fn new(terms: &Terms) -> Result<DecoderIn, Error> {
+        let stream = raw::Stream::new(&terms.said()).map_err(|status| match status {
+            raw::RANGE => Error::Paths,
+            other => Error::of(other),
+        })?;
+        Ok(DecoderIn {
+            stream,
+            terms: *terms,
+            message: Box::new([0; MESSAGE]),
+            data: Box::new([0; raw::DATA]),
+            offset: 0,
+        })
+    }
+
+    /// The next message that is whole with octets of the piece, as [`Decoder::pull`] gives it.
+    pub fn pull(&mut self, piece: &mut &[u8]) -> Option<MessageIn<'_>> {
+        let (taken, verdict) = self.stream.pull(piece, &mut self.message, &mut self.data);
+        *piece = &piece[taken..];
+        let verdict = verdict?;
+        let offset = self.offset;
+        self.offset += u64::from(verdict.len);
+        let octets = &self.message[..told(&verdict)];
+        Some(MessageIn::of(&self.terms, octets, &verdict).at(offset))
+    }
+
+    /// The octets of an incomplete message that it holds. Where a stream ends, 0 means that it
+    /// ends after a message, or after a reset.
+    pub fn held(&self) -> usize {
+        self.stream.held()
+    }
+}
+
+impl fmt::Debug for DecoderIn {
+    fn fmt(&self, f: &mut fmt::Formatter<'_>) -> fmt::Result {
+        f.debug_struct("DecoderIn")
+            .field("terms", &self.terms)
             .field("held", &self.held())
             .finish_non_exhaustive()
     }

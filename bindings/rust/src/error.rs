@@ -22,6 +22,8 @@ pub enum Error {
     State,
     /// There is room for less than [`ROWS`](crate::ROWS) rows.
     Room,
+    /// By [`Terms`](crate::Terms) routes have path identifiers, which no call reads.
+    Paths,
 }
 
 impl Error {
@@ -51,6 +53,7 @@ impl fmt::Display for Error {
             Error::Config => "the configuration isn't allowed",
             Error::State => "the session isn't in a state for this",
             Error::Room => "there is less room than one message may need",
+            Error::Paths => "routes have path identifiers, which no call reads",
         })
     }
 }

@@ -25,9 +25,27 @@ impl Kind {
     }
 }
 
+/// The type of a message by [`Terms`](crate::Terms).
+#[derive(Clone, Copy, Debug, PartialEq, Eq, Hash)]
+pub enum KindIn {
+    /// One of RFC 4271.
+    Base(Kind),
+    /// Type 5, a ROUTE-REFRESH (RFC 2918, section 3).
+    Refresh,
+}
+
+impl KindIn {
+    pub(crate) fn of(number: u8) -> KindIn {
+        match number {
+            raw::ROUTE_REFRESH => KindIn::Refresh,
+            other => KindIn::Base(Kind::of(other)),
+        }
+    }
+}
+
 /// What octets of a stream begin with (RFC 4271, sections 4.1 and 6.1).
 #[derive(Clone, Copy, Debug, PartialEq, Eq, Hash)]
-pub enum Front<'a> {
+pub enum Front<'a, K = Kind> {
     /// Less than a message.
     More {
         /// The least length that the message will have: 19 until its header is complete, then what
@@ -37,7 +55,7 @@ pub enum Front<'a> {
     /// A whole message.
     Found {
         /// Its type.
-        kind: Kind,
+        kind: K,
         /// Its octets, header included: 19 to [`MESSAGE`](crate::MESSAGE).
         octets: &'a [u8],
     },
@@ -54,19 +72,27 @@ pub enum Front<'a> {
 
 /// Classifies what octets of a stream begin with. Octets after a message are ignored.
 pub fn front(octets: &[u8]) -> Front<'_> {
-    let found = raw::front(octets);
-    match found.what {
+    found(&raw::front(octets), octets, Kind::of)
+}
+
+/// From C's form, of these octets.
+pub(crate) fn found<'a, K>(
+    it: &raw::Found,
+    octets: &'a [u8],
+    kind_of: impl FnOnce(u8) -> K,
+) -> Front<'a, K> {
+    match it.what {
         raw::MORE => Front::More {
-            wanted: found.len as usize,
+            wanted: it.len as usize,
         },
         raw::FOUND => Front::Found {
-            kind: Kind::of(found.kind),
-            octets: &octets[..found.len as usize],
+            kind: kind_of(it.kind),
+            octets: &octets[..it.len as usize],
         },
         _ => Front::Fault {
-            code: found.code,
-            subcode: found.subcode,
-            data: found.data.of(octets),
+            code: it.code,
+            subcode: it.subcode,
+            data: it.data.of(octets),
         },
     }
 }

@@ -36,6 +36,27 @@ pub struct Context {
 }
 
 #[repr(C)]
+#[derive(Default)]
+pub struct Terms {
+    pub context: Context,
+    pub refresh: u8,
+    pub long_messages: u8,
+    pub long_back: u8,
+    pub paths4: u8,
+    pub paths6: u8,
+    pub hop6: u8,
+}
+
+#[repr(C)]
+#[derive(Default)]
+pub struct Refresh {
+    pub afi: u16,
+    pub safi: u8,
+    pub subtype: u8,
+    pub rest: Span,
+}
+
+#[repr(C)]
 #[derive(Clone, Copy, Debug, Default, PartialEq, Eq)]
 pub struct Parts {
     pub withdrawn: Span,

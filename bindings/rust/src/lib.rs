@@ -8,6 +8,9 @@
 //! only a decoder's messages, the data of a [`Outcome::Reset`], lines of text and messages that are
 //! written are copied.
 //!
+//! By the [`Terms`] that [`terms_of`] finds in two OPENs a ROUTE-REFRESH is a message too: see
+//! [`messages_in`] and [`DecoderIn`].
+//!
 //! ```
 //! use ristulva::{Context, Outcome};
 //!
@@ -52,9 +55,11 @@ mod path;
 mod prefix;
 #[allow(unsafe_code)]
 mod raw;
+mod refresh;
 mod route;
 mod rows;
 mod session;
+mod terms;
 mod update;
 mod write;
 
@@ -64,22 +69,27 @@ pub use attribute::{Attribute, Attributes};
 pub use cleaned::{Cleaned, End, HandedOn};
 pub use config::Config;
 pub use context::Context;
-pub use decoder::Decoder;
+pub use decoder::{Decoder, DecoderIn};
 pub use error::Error;
 pub use facts::{Facts, Origin};
 pub use field::{Field, FieldKind, Group};
-pub use front::{front, Front, Kind};
+pub use front::{front, Front, Kind, KindIn};
 pub use message::{judge, messages, Message, Messages, Outcome};
 pub use note::{Note, Notes, Why};
 pub use open::{Capabilities, Capability, Open};
 pub use path::{Numbers, Segment, SegmentKind, Segments};
 pub use prefix::{NextHop, Prefix, Prefixes, Shown};
+pub use refresh::{
+    encode_refresh, front_in, judge_in, messages_in, MessageIn, MessagesIn, Refresh,
+    RefreshOutcome, RouteRefresh, Subtype, REFRESH_MESSAGE,
+};
 pub use route::{Route, Routes};
 pub use rows::{
     read_rows, write_rows, CommunityRow, LargeCommunityRow, NumberRow, RouteRow, Row, Stop,
     Written, ROWS,
 };
 pub use session::{Event, Heard, Peer, Session, State};
+pub use terms::{terms_of, AgreedTerms, Refreshes, Terms};
 pub use update::Update;
 pub use write::{encode, narrow, reconcile};
 

@@ -111,18 +111,22 @@ impl<'a> Message<'a> {
     ///
     /// [`Error::Memory`].
     pub fn lines(&self) -> Result<String, Error> {
-        let mut text = vec![0; LINES];
-        loop {
-            let context = self.context.said();
-            let (status, written) = raw::text(&context, self.offset, self.octets, &mut text);
-            match status {
-                raw::OK => {
-                    text.truncate(written);
-                    return Ok(String::from_utf8(text).expect("the lines are ASCII"));
-                }
-                raw::ROOM => text.resize(written, 0),
-                _ => return Err(Error::of(status)),
+        let context = self.context.said();
+        printed(|text| raw::text(&context, self.offset, self.octets, text))
+    }
+}
+
+/// The lines that a call writes, which is made again where it has less room than it needs.
+pub(crate) fn printed(mut write: impl FnMut(&mut [u8]) -> (u32, usize)) -> Result<String, Error> {
+    let mut text = vec![0; LINES];
+    loop {
+        match write(&mut text) {
+            (raw::OK, written) => {
+                text.truncate(written);
+                return Ok(String::from_utf8(text).expect("the lines are ASCII"));
             }
+            (raw::ROOM, written) => text.resize(written, 0),
+            (status, _) => return Err(Error::of(status)),
         }
     }
 }

@@ -3,8 +3,8 @@
 //! What makes them safe is the same everywhere. A slice's pointer isn't null, also where the slice
 //! is empty, and its length goes with it. What a call writes is a `&mut`, so it overlaps
 //! nothing else. No call keeps a pointer, and for any octets, cursor and span it reads nothing
-//! outside of what it is given. The comments of the calls on a [`Decoder`] and on a [`Session`] say
-//! the rest.
+//! outside of what it is given. The comments of the calls on a [`Decoder`], a [`Stream`] and a
+//! [`Session`] say the rest.
 
 pub use crate::layout::*;
 use std::cell::UnsafeCell;
@@ -29,6 +29,10 @@ pub const BATCH: usize = 4073;
 /// The values of [`Found`].
 pub const MORE: u8 = 0;
 pub const FOUND: u8 = 1;
+
+/// The type of a ROUTE-REFRESH, and the octets of one that is written.
+pub const ROUTE_REFRESH: u8 = 5;
+pub const REFRESH_MESSAGE: usize = 23;
 
 /// The verdicts.
 pub const OPEN: u8 = 1;
@@ -62,8 +66,8 @@ pub const DO_FLUSH: u8 = 10;
 /// The address family of IPv4.
 pub const AFI_IP4: u16 = 1;
 
-/// `ristulva_decoder` and `ristulva_session`: where the memory of one is, which is the library's;
-/// null where there is none.
+/// `ristulva_decoder`, `ristulva_stream` and `ristulva_session`: where the memory of one is, which is
+/// the library's; null where there is none.
 #[repr(C)]
 struct Handle {
     body: *mut u8,
@@ -111,10 +115,20 @@ extern "C" {
     fn ristulva_open(octets: *const u8, len: usize, out: *mut OpenFields) -> u32;
     fn ristulva_next_capability(octets: *const u8, len: usize, cursor: *mut Capabilities, out: *mut Capability) -> u32;
     fn ristulva_agree(ours: *const u8, ours_len: usize, theirs: *const u8, theirs_len: usize, context: *mut Context, hold: *mut u16) -> u32;
+    fn ristulva_terms_of(reader: *const u8, reader_len: usize, sender: *const u8, sender_len: usize, terms: *mut Terms, hold: *mut u16) -> u32;
+    fn ristulva_front_in(terms: *const Terms, octets: *const u8, len: usize, out: *mut Found) -> u32;
+    fn ristulva_judge_in(terms: *const Terms, octets: *const u8, len: usize, data: *mut u8, room: usize, out: *mut Verdict) -> u32;
+    fn ristulva_text_in(terms: *const Terms, place: u64, octets: *const u8, len: usize, text: *mut c_char, room: usize, written: *mut usize) -> u32;
+    fn ristulva_refresh_in(terms: *const Terms, octets: *const u8, len: usize, out: *mut Refresh) -> u32;
+    fn ristulva_encode_refresh(afi: u16, safi: u8, subtype: u8, message: *mut u8, room: usize, written: *mut usize) -> u32;
     fn ristulva_decoder_new(context: *const Context, decoder: *mut Handle) -> u32;
     fn ristulva_decoder_free(decoder: *mut Handle) -> u32;
     fn ristulva_decoder_pull(decoder: *mut Handle, octets: *const u8, len: usize, message: *mut u8, message_room: usize, data: *mut u8, room: usize, taken: *mut usize, out: *mut Verdict) -> u32;
     fn ristulva_decoder_held(decoder: *mut Handle, held: *mut usize) -> u32;
+    fn ristulva_stream_new(terms: *const Terms, stream: *mut Handle) -> u32;
+    fn ristulva_stream_free(stream: *mut Handle) -> u32;
+    fn ristulva_stream_pull(stream: *mut Handle, octets: *const u8, len: usize, message: *mut u8, message_room: usize, data: *mut u8, room: usize, taken: *mut usize, out: *mut Verdict) -> u32;
+    fn ristulva_stream_held(stream: *mut Handle, held: *mut usize) -> u32;
     fn ristulva_session_new(config: *const Config, session: *mut Handle) -> u32;
     fn ristulva_session_free(session: *mut Handle) -> u32;
     fn ristulva_session_state(session: *mut Handle, state: *mut u8) -> u32;
@@ -473,6 +487,67 @@ pub fn agree(ours: &[u8], theirs: &[u8]) -> Option<(Context, u16)> {
     (status == OK).then_some((context, hold))
 }
 
+pub fn terms_of(reader: &[u8], sender: &[u8]) -> Option<(Terms, u16)> {
+    let (mut terms, mut hold) = (Terms::default(), 0);
+    let (one, other) = (reader.as_ptr(), sender.as_ptr());
+    // SAFETY: see above.
+    let status = unsafe {
+        ristulva_terms_of(
+            one,
+            reader.len(),
+            other,
+            sender.len(),
+            &mut terms,
+            &mut hold,
+        )
+    };
+    (status == OK).then_some((terms, hold))
+}
+
+/// `None` where the terms are out of their range.
+pub fn front_in(terms: &Terms, octets: &[u8]) -> Option<Found> {
+    let mut out = Found::default();
+    // SAFETY: see above.
+    let status = unsafe { ristulva_front_in(terms, octets.as_ptr(), octets.len(), &mut out) };
+    (status == OK).then_some(out)
+}
+
+/// The status, and the verdict, which is none where the octets are incomplete or the terms are out
+/// of their range.
+pub fn judge_in(terms: &Terms, octets: &[u8], data: &mut [u8]) -> (u32, Verdict) {
+    let mut out = Verdict::default();
+    let (at, len) = (octets.as_ptr(), octets.len());
+    // SAFETY: see above.
+    let status =
+        unsafe { ristulva_judge_in(terms, at, len, data.as_mut_ptr(), data.len(), &mut out) };
+    (status, out)
+}
+
+/// The status, and the length of the lines where that is OK or ROOM.
+pub fn text_in(terms: &Terms, place: u64, octets: &[u8], text: &mut [u8]) -> (u32, usize) {
+    let mut written = 0;
+    let (at, len) = (octets.as_ptr(), octets.len());
+    let (into, room) = (text.as_mut_ptr().cast(), text.len());
+    // SAFETY: see above.
+    let status = unsafe { ristulva_text_in(terms, place, at, len, into, room, &mut written) };
+    (status, written)
+}
+
+pub fn refresh_in(terms: &Terms, octets: &[u8]) -> Option<Refresh> {
+    let mut out = Refresh::default();
+    // SAFETY: see above.
+    let status = unsafe { ristulva_refresh_in(terms, octets.as_ptr(), octets.len(), &mut out) };
+    (status == OK).then_some(out)
+}
+
+pub fn encode_refresh(afi: u16, safi: u8, subtype: u8) -> [u8; REFRESH_MESSAGE] {
+    let (mut message, mut written) = ([0; REFRESH_MESSAGE], 0);
+    let (into, room) = (message.as_mut_ptr(), REFRESH_MESSAGE);
+    // SAFETY: see above. There is room for it.
+    unsafe { ristulva_encode_refresh(afi, safi, subtype, into, room, &mut written) };
+    message
+}
+
 /// Room that is enough for each name.
 const NAME: usize = 64;
 
@@ -553,6 +628,60 @@ impl Drop for Decoder {
     fn drop(&mut self) {
         // SAFETY: see above. It has a decoder, and nothing is given the handle after this.
         unsafe { ristulva_decoder_free(self.0.get()) };
+    }
+}
+
+/// A stream by terms, which is freed when it is dropped, as a [`Decoder`] is.
+pub struct Stream(UnsafeCell<Handle>);
+
+// SAFETY: as for a session, below.
+unsafe impl Send for Stream {}
+
+impl Stream {
+    /// A stream, or the status where there is none.
+    pub fn new(terms: &Terms) -> Result<Stream, u32> {
+        let mut handle = Handle {
+            body: ptr::null_mut(),
+        };
+        // SAFETY: see above; the handle has no stream yet.
+        match unsafe { ristulva_stream_new(terms, &mut handle) } {
+            OK => Ok(Stream(handle.into())),
+            status => Err(status),
+        }
+    }
+
+    /// As [`Decoder::pull`].
+    pub fn pull(
+        &mut self,
+        piece: &[u8],
+        message: &mut Room,
+        data: &mut Data,
+    ) -> (usize, Option<Verdict>) {
+        let (mut taken, mut out) = (0, Verdict::default());
+        let (handle, at, len) = (self.0.get(), piece.as_ptr(), piece.len());
+        let (into, room) = (message.as_mut_ptr(), message.len());
+        let (data, data_room) = (data.as_mut_ptr(), data.len());
+        let (count, told) = (&mut taken, &mut out);
+        // SAFETY: see above.
+        let status = unsafe {
+            ristulva_stream_pull(handle, at, len, into, room, data, data_room, count, told)
+        };
+        (taken, (status == OK).then_some(out))
+    }
+
+    /// The number of octets of an incomplete message that it holds.
+    pub fn held(&self) -> usize {
+        let mut held = 0;
+        // SAFETY: see above.
+        unsafe { ristulva_stream_held(self.0.get(), &mut held) };
+        held
+    }
+}
+
+impl Drop for Stream {
+    fn drop(&mut self) {
+        // SAFETY: see above. It has a stream, and nothing is given the handle after this.
+        unsafe { ristulva_stream_free(self.0.get()) };
     }
 }
 

@@ -4,8 +4,8 @@
  *
  * The caller owns every octet. No call keeps a pointer, returns one, calls back, reads outside of what it is given, or writes elsewhere than
  * through the pointers that it is given. A call only allocates where its comment says so, and frees that before it returns. There is no state but
- * what the caller holds: calls are thread safe, unless two of them write the same memory or are given the same handle. Only decoders, sessions and
- * guards (below) are memory of the library's, behind a handle of the caller's.
+ * what the caller holds: calls are thread safe, unless two of them write the same memory or are given the same handle. Only decoders, streams,
+ * sessions and guards (below) are memory of the library's, behind a handle of the caller's.
  *
  * Of every call:
  *  - Pointers aren't null, but where the length beside one is 0 (see the end of this header).
@@ -42,6 +42,7 @@ typedef uint32_t ristulva_status;
 #define RISTULVA_NO_SESSION 1u /* the handle has no session: nothing has changed */
 #define RISTULVA_NO_DECODER 1u /* the handle has no decoder: nothing has changed */
 #define RISTULVA_NO_GUARD 1u   /* the handle has no guard: nothing has changed */
+#define RISTULVA_NO_STREAM 1u  /* the handle has no stream: nothing has changed */
 #define RISTULVA_MEMORY 2u     /* an allocation failed: nothing has changed, and the call can be made again */
 #define RISTULVA_RANGE 3u      /* a number, a span or a length is out of its range: nothing has changed */
 #define RISTULVA_INCOMPLETE 4u /* the octets are an incomplete message: nothing has changed */
@@ -49,9 +50,9 @@ typedef uint32_t ristulva_status;
 #define RISTULVA_END 6u        /* nothing remains: nothing has changed */
 #define RISTULVA_REFUSED 7u    /* no accepted UPDATE (whole, where it is to be written), or no accepted OPEN: nothing has changed */
 #define RISTULVA_UNWRITABLE 8u /* an UPDATE that can't be written: nothing has changed */
-#define RISTULVA_STATE 9u      /* the session or the guard isn't in a state for this, or the decoder has stopped: nothing has changed */
+#define RISTULVA_STATE 9u      /* the session or the guard isn't in a state for this, or the decoder or the stream has stopped: nothing has changed */
 #define RISTULVA_CONFIG 10u    /* the configuration isn't one that is allowed: nothing has changed */
-#define RISTULVA_IN_USE 11u    /* the handle has a session, a decoder or a guard already: nothing has changed */
+#define RISTULVA_IN_USE 11u    /* the handle has a session, a decoder, a stream or a guard already: nothing has changed */
 #define RISTULVA_MIXED 12u     /* an UPDATE with routes of several kinds, which no session sends: nothing has changed */
 
 /* ---- octets ---- */
@@ -191,7 +192,7 @@ ristulva_status ristulva_name(uint8_t kind, uint8_t number, uint8_t subcode, cha
 
 typedef struct {
     uint8_t what; /* RISTULVA_MORE, RISTULVA_FOUND or RISTULVA_FAULT */
-    /* RISTULVA_FOUND: the type, 1 OPEN, 2 UPDATE, 3 NOTIFICATION, 4 KEEPALIVE. Else 0. */
+    /* RISTULVA_FOUND: the type, 1 OPEN, 2 UPDATE, 3 NOTIFICATION, 4 KEEPALIVE, and 5 ROUTE-REFRESH by ristulva_terms. Else 0. */
     uint8_t kind;
     /* RISTULVA_FAULT: code and subcode of the NOTIFICATION that answers it, 1 and 1 to 3. Else 0. */
     uint8_t code;
@@ -222,6 +223,7 @@ typedef struct {
 #define RISTULVA_KEEPALIVE 4u    /* a KEEPALIVE is accepted */
 #define RISTULVA_WITHDRAW 5u     /* an UPDATE is treated as a withdrawal of all its routes (RFC 7606, section 2) */
 #define RISTULVA_RESET 6u        /* the session ends, by a NOTIFICATION to the peer */
+#define RISTULVA_REFRESH 7u      /* a ROUTE-REFRESH is accepted: only by ristulva_terms, below */
 
 /* The parts of an UPDATE (RFC 4271, section 4.3). */
 typedef struct {
@@ -231,8 +233,8 @@ typedef struct {
 } ristulva_parts;
 
 typedef struct {
-    uint8_t verdict; /* RISTULVA_OPEN to RISTULVA_RESET */
-    uint8_t kind;    /* the message's type, 1 to 4; 0 where its header has a fault */
+    uint8_t verdict; /* RISTULVA_OPEN to RISTULVA_REFRESH */
+    uint8_t kind;    /* the message's type, 1 to 4, or 5 by ristulva_terms; 0 where its header has a fault */
     /* RISTULVA_NOTIFICATION and RISTULVA_RESET: code and subcode of the NOTIFICATION that was received, or is to be sent (RFC 4271, section 4.5).
      * Else 0. */
     uint8_t code;
@@ -786,6 +788,83 @@ ristulva_status ristulva_next_capability(const uint8_t *octets, size_t len, rist
 ristulva_status ristulva_agree(const uint8_t *ours, size_t ours_len, const uint8_t *theirs, size_t theirs_len, ristulva_context *context,
                                uint16_t *hold);
 
+/* ---- terms: what two OPENs agree on beyond a context (RFC 2918; RFC 7313) ----
+ *
+ * Terms are of one direction of a session, from a sender to a reader: the sender's messages are read by them. A ROUTE-REFRESH is a message where its
+ * reader offers that; by a context alone its type, 5, is a bad message type. All other messages are read in `context`, which the other calls of this
+ * header take. A message has at most RISTULVA_MESSAGE octets, whatever is agreed on.
+ *
+ * A call that takes terms answers RISTULVA_RANGE, and writes nothing, where `refresh` is none of the numbers below, or routes have path identifiers,
+ * which no call reads.
+ */
+
+/* Which ROUTE-REFRESH the reader accepts. */
+#define RISTULVA_REFRESH_NONE 0u     /* none: it doesn't offer it (capability 2) */
+#define RISTULVA_REFRESH_PLAIN 1u    /* requests (RFC 2918) */
+#define RISTULVA_REFRESH_ENHANCED 2u /* and the marks where a refresh begins and ends, which both offer (capability 70; RFC 7313) */
+
+/* Each flag is 0 for no, and any other number for yes. */
+typedef struct {
+    ristulva_context context;
+    uint8_t refresh;       /* RISTULVA_REFRESH_NONE to RISTULVA_REFRESH_ENHANCED */
+    uint8_t long_messages; /* the reader accepts messages of up to 65535 octets (capability 6; RFC 8654) */
+    uint8_t long_back;     /* the sender does: NOTIFICATIONs to it may be that long */
+    uint8_t paths4;        /* IPv4 unicast routes have path identifiers (capability 69; RFC 7911) */
+    uint8_t paths6;        /* IPv6 unicast routes have path identifiers */
+    uint8_t hop6;          /* IPv4 unicast routes may have an IPv6 next hop (capability 5; RFC 8950) */
+} ristulva_terms;
+
+/* Reports the terms for what a reader receives from a sender, given the octets of the OPENs of both; octets after the OPENs are ignored. Neither OPEN
+ * is refused for what it says, and each end finds the same terms for one direction. `hold` is the Hold Time in seconds, 0 for none. It allocates
+ * nothing. Each flag is 0 or 1.
+ *
+ * RISTULVA_INCOMPLETE, RISTULVA_REFUSED: as by ristulva_open, for the first of the two that isn't accepted. Nothing is written. */
+ristulva_status ristulva_terms_of(const uint8_t *reader, size_t reader_len, const uint8_t *sender, size_t sender_len, ristulva_terms *terms,
+                                  uint16_t *hold);
+
+/* Classifies the first message of a stream, as ristulva_front does, by these terms. RISTULVA_RANGE. */
+ristulva_status ristulva_front_in(const ristulva_terms *terms, const uint8_t *octets, size_t len, ristulva_found *out);
+
+/* Judges the first message of the octets by these terms: as ristulva_judge does in their context, but for a ROUTE-REFRESH. That is RISTULVA_REFRESH,
+ * or RISTULVA_RESET: 1/2 for a body of fewer than four octets, and 7/1, with the message as data, for a mark of another length than four octets
+ * (RFC 7313, section 5).
+ *
+ * RISTULVA_RANGE; RISTULVA_INCOMPLETE, RISTULVA_ROOM: as by ristulva_judge. */
+ristulva_status ristulva_judge_in(const ristulva_terms *terms, const uint8_t *octets, size_t len, uint8_t *data, size_t room,
+                                  ristulva_verdict *out);
+
+/* Writes the lines that `bgp show` prints of the first message of the octets, as ristulva_text does, by these terms. It allocates.
+ *
+ * RISTULVA_RANGE; RISTULVA_INCOMPLETE, RISTULVA_MEMORY, RISTULVA_ROOM: as by ristulva_text. */
+ristulva_status ristulva_text_in(const ristulva_terms *terms, uint64_t place, const uint8_t *octets, size_t len, char *text, size_t room,
+                                 size_t *written);
+
+/* The subtypes of a ROUTE-REFRESH. Each other one has no effect (RFC 7313, section 5). */
+#define RISTULVA_SUBTYPE_REQUEST 0u /* the routes of the family are asked for (RFC 2918, section 3) */
+#define RISTULVA_SUBTYPE_BEGIN 1u   /* a refresh begins (BoRR; RFC 7313, section 3.2) */
+#define RISTULVA_SUBTYPE_END 2u     /* a refresh ends (EoRR) */
+
+typedef struct {
+    uint16_t afi;       /* the address family */
+    uint8_t safi;       /* the subsequent address family */
+    uint8_t subtype;    /* RISTULVA_SUBTYPE_REQUEST by RISTULVA_REFRESH_PLAIN, whatever the octet is: it is reserved there, and ignored */
+    ristulva_span rest; /* what follows the four octets, without effect: entries of route filters (RFC 5291, section 4) */
+} ristulva_refresh;
+
+/* Reports what a ROUTE-REFRESH that the octets begin with says, by these terms.
+ *
+ * RISTULVA_RANGE; RISTULVA_INCOMPLETE; RISTULVA_REFUSED, the first message is another, or isn't accepted: nothing is written. */
+ristulva_status ristulva_refresh_in(const ristulva_terms *terms, const uint8_t *octets, size_t len, ristulva_refresh *out);
+
+/* Writes a ROUTE-REFRESH for a family to the beginning of `message`, which has room for `room` octets; the rest of the buffer is unchanged. `written`
+ * is its length: RISTULVA_REFRESH_MESSAGE. It allocates nothing.
+ *
+ * RISTULVA_ROOM: `written` is, with the room that is needed; `message` isn't. */
+ristulva_status ristulva_encode_refresh(uint16_t afi, uint8_t safi, uint8_t subtype, uint8_t *message, size_t room, size_t *written);
+
+/* The length of a ROUTE-REFRESH that is written. */
+#define RISTULVA_REFRESH_MESSAGE 23u
+
 /* ---- a stream in pieces (RFC 4271, section 4.1) ----
  *
  * A decoder is for a host that keeps no buffer of what it has read: it consumes the octets of a stream, however TCP cuts it, and holds those of an
@@ -828,6 +907,36 @@ ristulva_status ristulva_decoder_pull(ristulva_decoder *decoder, const uint8_t *
 /* Reports the length of the incomplete message that the decoder holds, at most RISTULVA_MESSAGE. Where a stream ends, 0 means that it ends after a
  * message, or after a RISTULVA_RESET. RISTULVA_NO_DECODER. */
 ristulva_status ristulva_decoder_held(ristulva_decoder *decoder, size_t *held);
+
+/* ---- a stream in pieces, by terms (RFC 2918; RFC 7313) ----
+ *
+ * The same as a decoder by ristulva_terms instead of a context: the outcomes are what ristulva_judge_in reports of one message after another. A
+ * handle is used, and may move between threads, as one of a decoder.
+ */
+
+struct ristulva_stream_body;
+
+typedef struct {
+    struct ristulva_stream_body *body; /* NULL where there is no stream */
+} ristulva_stream;
+
+/* Makes a stream at its beginning, by the terms of its direction. It allocates what the stream keeps: some 4.5 KB.
+ *
+ * RISTULVA_IN_USE, the handle has a stream; RISTULVA_RANGE, of the terms; RISTULVA_MEMORY, only where neither holds: nothing has changed. */
+ristulva_status ristulva_stream_new(const ristulva_terms *terms, ristulva_stream *stream);
+
+/* Frees a stream, and what it holds: the handle has none then. RISTULVA_NO_STREAM. */
+ristulva_status ristulva_stream_free(ristulva_stream *stream);
+
+/* Consumes octets of a piece until a message is whole, as ristulva_decoder_pull does, and reports its outcome, as ristulva_judge_in does. It doesn't
+ * allocate.
+ *
+ * RISTULVA_INCOMPLETE, RISTULVA_ROOM, RISTULVA_STATE: as by ristulva_decoder_pull; RISTULVA_NO_STREAM: nothing has changed. */
+ristulva_status ristulva_stream_pull(ristulva_stream *stream, const uint8_t *octets, size_t len, uint8_t *message, size_t message_room,
+                                     uint8_t *data, size_t room, size_t *taken, ristulva_verdict *out);
+
+/* Reports the length of the incomplete message that the stream holds, at most RISTULVA_MESSAGE. RISTULVA_NO_STREAM. */
+ristulva_status ristulva_stream_held(ristulva_stream *stream, size_t *held);
 
 /* ---- sessions (RFC 4271, section 8) ----
  *
@@ -1348,6 +1457,49 @@ ristulva_inline_ ristulva_status ristulva_agree(const uint8_t *ours, size_t ours
     return ristulva_linked_agree(ristulva_given_(ours, ours_len), ours_len, ristulva_given_(theirs, theirs_len), theirs_len, context, hold);
 }
 
+extern __typeof__(ristulva_terms_of) ristulva_linked_terms_of __asm__("ristulva_terms_of");
+ristulva_inline_ ristulva_status ristulva_terms_of(const uint8_t *reader, size_t reader_len, const uint8_t *sender, size_t sender_len,
+                                                   ristulva_terms *terms, uint16_t *hold)
+{
+    return ristulva_linked_terms_of(ristulva_given_(reader, reader_len), reader_len, ristulva_given_(sender, sender_len), sender_len, terms, hold);
+}
+
+extern __typeof__(ristulva_front_in) ristulva_linked_front_in __asm__("ristulva_front_in");
+ristulva_inline_ ristulva_status ristulva_front_in(const ristulva_terms *terms, const uint8_t *octets, size_t len, ristulva_found *out)
+{
+    return ristulva_linked_front_in(terms, ristulva_given_(octets, len), len, out);
+}
+
+extern __typeof__(ristulva_judge_in) ristulva_linked_judge_in __asm__("ristulva_judge_in");
+ristulva_inline_ ristulva_status ristulva_judge_in(const ristulva_terms *terms, const uint8_t *octets, size_t len, uint8_t *data, size_t room,
+                                                   ristulva_verdict *out)
+{
+    uint64_t nothing = 0;
+    return ristulva_linked_judge_in(terms, ristulva_given_(octets, len), len, ristulva_place_(uint8_t, data, room), room, out);
+}
+
+extern __typeof__(ristulva_text_in) ristulva_linked_text_in __asm__("ristulva_text_in");
+ristulva_inline_ ristulva_status ristulva_text_in(const ristulva_terms *terms, uint64_t place, const uint8_t *octets, size_t len, char *text,
+                                                  size_t room, size_t *written)
+{
+    uint64_t nothing = 0;
+    return ristulva_linked_text_in(terms, place, ristulva_given_(octets, len), len, ristulva_place_(char, text, room), room, written);
+}
+
+extern __typeof__(ristulva_refresh_in) ristulva_linked_refresh_in __asm__("ristulva_refresh_in");
+ristulva_inline_ ristulva_status ristulva_refresh_in(const ristulva_terms *terms, const uint8_t *octets, size_t len, ristulva_refresh *out)
+{
+    return ristulva_linked_refresh_in(terms, ristulva_given_(octets, len), len, out);
+}
+
+extern __typeof__(ristulva_encode_refresh) ristulva_linked_encode_refresh __asm__("ristulva_encode_refresh");
+ristulva_inline_ ristulva_status ristulva_encode_refresh(uint16_t afi, uint8_t safi, uint8_t subtype, uint8_t *message, size_t room,
+                                                         size_t *written)
+{
+    uint64_t nothing = 0;
+    return ristulva_linked_encode_refresh(afi, safi, subtype, ristulva_place_(uint8_t, message, room), room, written);
+}
+
 extern __typeof__(ristulva_decoder_pull) ristulva_linked_decoder_pull __asm__("ristulva_decoder_pull");
 ristulva_inline_ ristulva_status ristulva_decoder_pull(ristulva_decoder *decoder, const uint8_t *octets, size_t len, uint8_t *message,
                                                        size_t message_room, uint8_t *data, size_t room, size_t *taken, ristulva_verdict *out)
@@ -1355,6 +1507,15 @@ ristulva_inline_ ristulva_status ristulva_decoder_pull(ristulva_decoder *decoder
     uint64_t nothing = 0;
     return ristulva_linked_decoder_pull(decoder, ristulva_given_(octets, len), len, ristulva_place_(uint8_t, message, message_room), message_room,
                                         ristulva_place_(uint8_t, data, room), room, taken, out);
+}
+
+extern __typeof__(ristulva_stream_pull) ristulva_linked_stream_pull __asm__("ristulva_stream_pull");
+ristulva_inline_ ristulva_status ristulva_stream_pull(ristulva_stream *stream, const uint8_t *octets, size_t len, uint8_t *message,
+                                                      size_t message_room, uint8_t *data, size_t room, size_t *taken, ristulva_verdict *out)
+{
+    uint64_t nothing = 0;
+    return ristulva_linked_stream_pull(stream, ristulva_given_(octets, len), len, ristulva_place_(uint8_t, message, message_room), message_room,
+                                       ristulva_place_(uint8_t, data, room), room, taken, out);
 }
 
 extern __typeof__(ristulva_session_event) ristulva_linked_session_event __asm__("ristulva_session_event");

@@ -11,6 +11,10 @@ pub mod RouteSpans
 pub mod Encodings
 pub mod Outcomes
 pub mod PartPlaces
+pub mod JudgedIn
+pub mod Refreshes
+pub mod Streams
+pub mod TermsSaid
 pub mod NoteSteps
 pub mod NoteCounts
 pub mod CapabilitySteps

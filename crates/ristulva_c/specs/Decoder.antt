@@ -18,7 +18,7 @@ abbrev pub IsMade : Context → Option Decoding → ℕ → Option Decoding → 
 IsMade ctx (Some old) status new = (status ≡ IN_USE) × (new ≡ Some old)
 IsMade ctx None status new = ((status ≡ OK) × (new ≡ Some (fresh ctx))) ⊎ ((status ≡ MEMORY) × (new ≡ None))
 
-abbrev pub IsFreed : Option Decoding → ℕ → Option Decoding → Type 0
+abbrev pub IsFreed : {D : Type 0} → Option D → ℕ → Option D → Type 0
 IsFreed None status new = (status ≡ NO_SESSION) × (new ≡ None)
 IsFreed (Some old) status new = (status ≡ OK) × (new ≡ None)
 
@@ -52,29 +52,29 @@ GivesHeld d o = (what : Result Message HeadFault) × (IsContent what d.held × (
 -- ---- what is pulled from a piece
 
 -- what a call has: its status, and the caller's memory before and after it
-pub record Pulling : Type 0 where
+pub record Pulling (D : Type 0) : Type 0 where
   pub judging : Judging
-  pub old : Option Decoding
-  pub new : Option Decoding
+  pub old : Option D
+  pub new : Option D
   pub message_before : List ℕ
   pub message_behind : List ℕ
   pub taken_before : ℕ
   pub taken_behind : ℕ
 
 -- nothing is changed
-pub record IsLeft (answer : ℕ) (p : Pulling) : Type 0 where
+pub record IsLeft {D : Type 0} (answer : ℕ) (p : Pulling D) : Type 0 where
   pub told : judge.IsLeft answer p.judging
   pub decoder : p.new ≡ p.old
   pub message : p.message_behind ≡ p.message_before
   pub taken : p.taken_behind ≡ p.taken_before
 
 -- a reset was reported: nothing after it is read
-pub record IsOver (d : Decoding) (p : Pulling) : Type 0 where
+pub record IsOver (d : Decoding) (p : Pulling Decoding) : Type 0 where
   pub stopped : d.stopped ≡ true
   pub left : IsLeft STATE p
 
 -- the whole piece is consumed, and what is held then is less than a message
-pub record Awaits (d : Decoding) (piece : List ℕ) (p : Pulling) : Type 0 where
+pub record Awaits (d : Decoding) (piece : List ℕ) (p : Pulling Decoding) : Type 0 where
   pub going : d.stopped ≡ false
   pub waits : Waits (d.held ++ piece)
   pub told : judge.IsLeft INCOMPLETE p.judging
@@ -83,19 +83,19 @@ pub record Awaits (d : Decoding) (piece : List ℕ) (p : Pulling) : Type 0 where
   pub taken : p.taken_behind ≡ length piece
 
 -- octets of the piece are fed up to the end of a message, or of a header with a fault: that is reported, and the decoder continues after it
-pub record Gives (d : Decoding) (piece : List ℕ) (p : Pulling) : Type 0 where
+pub record Gives (d : Decoding) (piece : List ℕ) (p : Pulling Decoding) : Type 0 where
   pub going : d.stopped ≡ false
   pub fed : IsFed d piece p.taken_behind (holding d (d.held ++ take p.taken_behind piece))
   pub outcome : Outcome
   pub told : IsWholeTold d.ctx (d.held ++ take p.taken_behind piece) outcome p.judging p.message_before p.message_behind
   pub decoder : p.new ≡ Some (behind d outcome)
 
-abbrev pub Pulls : Option Decoding → List ℕ → Pulling → Type 0
+abbrev pub Pulls : Option Decoding → List ℕ → Pulling Decoding → Type 0
 Pulls None piece p = IsLeft NO_SESSION p
 Pulls (Some d) piece p = IsOver d p ⊎ (Awaits d piece p ⊎ Gives d piece p)
 
 -- both buffers have room for any outcome, or nothing is done
-abbrev pub PullsWithRoom : Option Decoding → List ℕ → Pulling → Type 0
+abbrev pub PullsWithRoom : Option Decoding → List ℕ → Pulling Decoding → Type 0
 PullsWithRoom old piece p =
     ((4096 ≤ length p.message_before) × ((4075 ≤ length p.judging.info_before) × Pulls old piece p))
     ⊎ (((length p.message_before < 4096) ⊎ (length p.judging.info_before < 4075)) × IsLeft ROOM p)

@@ -33,6 +33,12 @@ pub mod Session
 pub mod Hearing
 pub mod Agreed
 pub mod Agree
+pub mod Terms
+pub mod FrontIn
+pub mod JudgeIn
+pub mod Refresh
+pub mod Stream
+pub mod TextIn
 pub mod Sending
 pub mod Decoder
 pub mod Clean

@@ -3,6 +3,9 @@ pub mod LeftOut
 pub mod RouteList
 pub mod OriginAs
 pub mod Agree
+pub mod Terms
+pub mod JudgeIn
+pub mod Refresh
 pub mod Batch
 pub mod RouteRows
 pub mod NumberRows

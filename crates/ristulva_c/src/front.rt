@@ -38,7 +38,7 @@ pub struct ToldFront {
     pub info: Span,
 }
 
-fn fault_told(fault: HeadFault) -> ToldFront
+pub(crate) fn fault_told(fault: HeadFault) -> ToldFront
     ensures { result ≡ fault_told fault }
 {
     let (subcode, at, len) = match fault {

@@ -1,10 +1,12 @@
-//! A session, a decoder or a guard behind a handle.
+//! A session, a decoder, a stream or a guard behind a handle.
 
 ghost use Rattle.std.specs.Prelude.{◌≡◌, Option, None, Some, option_map};
 ghost use Rattle.bgp_machine.specs.Prelude.{Machine};
 ghost use Rattle.bgp_machine.specs.contracts.session.Session.{the_row as session_row};
 ghost use Rattle.bgp_msg.specs.Prelude.{Decoding};
 ghost use Rattle.bgp_msg.specs.contracts.decoder.Decoder.{the_row as decoder_row};
+ghost use Rattle.bgp_wide.specs.Decoder.{Decoding as Streaming};
+ghost use Rattle.bgp_wide.specs.contracts.decoder.WideDecoder.{the_row as stream_row};
 ghost use Rattle.bgp_guard.specs.Prelude.{Guarding};
 ghost use Rattle.bgp_guard.specs.contracts.guard.Guard.{the_row as guard_row};
 ghost use Rattle.ristulva_c.specs.Handle.{owned};
@@ -14,6 +16,7 @@ pub(crate) mod parts;
 use bgp_guard::Guard;
 use bgp_machine::Session;
 use bgp_msg::Decoder;
+use bgp_wide::WideDecoder;
 use parts::BoxParts;
 use std::alloc::Global;
 use std::marker::Model;
@@ -165,6 +168,76 @@ impl DecoderHandle {
 // The handle may move between threads.
 unsafe impl Send for DecoderHandle {}
 
+/// A stream, or none: then it is null.
+#[repr(C)]
+#[derive(Drop)]
+pub struct StreamHandle {
+    body: *mut Body,
+    /// The stream.
+    pub ghost value: { Option Streaming },
+}
+
+impl Model for StreamHandle {
+    ghost also_owns = { λ h. owned stream_row h.body h.value };
+}
+
+impl StreamHandle {
+    /// No stream.
+    fn none() -> StreamHandle
+        ensures { result.value ≡ None }
+    {
+        StreamHandle { body: null_mut() }
+    }
+
+    /// A handle made of the parts of a box.
+    fn of_parts(parts: BoxParts<WideDecoder, Global>) -> StreamHandle
+        ensures { result.value ≡ Some parts.value }
+    {
+        let BoxParts { ptr, alloc: _ } = parts;
+        StreamHandle {
+            body: ptr as *mut Body,
+        }
+    }
+
+    /// The parts of the box, where there is one.
+    fn into_parts(self, alloc: Global) -> Option<BoxParts<WideDecoder, Global>>
+        ensures { option_map (λ parts. parts.value) result ≡ self.value }
+    {
+        let StreamHandle { body } = self;
+        if body.is_null() {
+            None
+        } else {
+            Some(BoxParts {
+                ptr: body as *mut WideDecoder,
+                alloc,
+            })
+        }
+    }
+
+    /// Takes the stream out.
+    pub(crate) fn take(&mut self, alloc: Global) -> Option<Box<WideDecoder>>
+        ensures stream { option_map (λ stream. stream.value) result ≡ self.old.value }
+        ensures none { self.new.value ≡ None }
+    {
+        let old = replace(self, StreamHandle::none());
+        match old.into_parts(alloc) {
+            None => None,
+            Some(parts) => Some(parts.into_box()),
+        }
+    }
+
+    /// Puts a stream in, where there is none.
+    pub(crate) fn put(&mut self, stream: Box<WideDecoder>)
+        requires { self.old.value ≡ None }
+        ensures { self.new.value ≡ Some stream.value }
+    {
+        *self = StreamHandle::of_parts(BoxParts::of(stream));
+    }
+}
+
+// The handle may move between threads.
+unsafe impl Send for StreamHandle {}
+
 /// A guard, or none: then it is null.
 #[repr(C)]
 #[derive(Drop)]
@@ -242,5 +315,6 @@ fn crosses<T: Send>() {}
 fn crosses_threads() {
     crosses::<SessionHandle>();
     crosses::<DecoderHandle>();
+    crosses::<StreamHandle>();
     crosses::<GuardHandle>();
 }

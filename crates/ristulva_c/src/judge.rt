@@ -169,7 +169,12 @@ fn tell_without(ctx: &SessionContext, frame: Frame<'_>, info: &mut [u8], out: &m
 
 /// Writes the outcome of a whole message. One without parts is judged elsewhere, so that the lengths of an UPDATE are
 /// read once.
-fn tell_frame(ctx: &SessionContext, frame: Frame<'_>, info: &mut [u8], out: &mut Verdict) -> u32
+pub(crate) fn tell_frame(
+    ctx: &SessionContext,
+    frame: Frame<'_>,
+    info: &mut [u8],
+    out: &mut Verdict,
+) -> u32
     requires { IsLength frame.kind (19 + length frame.body.now) }
     ensures { Answers (context_of ctx.now) (step.Frame frame.entry) (record { status = result; before = out.old; behind = out.new; info_before = info.old; info_behind = info.new }) }
 {
@@ -180,7 +185,7 @@ fn tell_frame(ctx: &SessionContext, frame: Frame<'_>, info: &mut [u8], out: &mut
 }
 
 /// Writes the outcome of a header with a fault.
-fn tell_fault(fault: HeadFault, info: &mut [u8], out: &mut Verdict) -> u32
+pub(crate) fn tell_fault(fault: HeadFault, info: &mut [u8], out: &mut Verdict) -> u32
     ensures { (ctx : Context) → Answers ctx (step.Fault fault) (record { status = result; before = out.old; behind = out.new; info_before = info.old; info_behind = info.new }) }
 {
     let why = fault.answer();

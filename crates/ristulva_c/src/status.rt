@@ -3,7 +3,7 @@
 /// The call did what it says.
 pub const OK: u32 = 0;
 
-/// The handle has no session, decoder or guard.
+/// The handle has no session, decoder, stream or guard.
 pub const NO_SESSION: u32 = 1;
 
 /// An allocation failed: nothing has changed, and the call can be made again.
@@ -27,13 +27,13 @@ pub const REFUSED: u32 = 7;
 /// The UPDATE can't be written.
 pub const UNWRITABLE: u32 = 8;
 
-/// The session or the guard isn't in a state for this, or the decoder has stopped.
+/// The session or the guard isn't in a state for this, or the decoder or the stream has stopped.
 pub const STATE: u32 = 9;
 
 /// The configuration isn't one that is allowed.
 pub const CONFIG: u32 = 10;
 
-/// The handle has a session, a decoder or a guard already.
+/// The handle has a session, a decoder, a stream or a guard already.
 pub const IN_USE: u32 = 11;
 
 /// The UPDATE has routes of several kinds (RFC 7606, section 5.1).

@@ -17,7 +17,7 @@ use bgp_update::UpdateView;
 use std::alloc::{AllocError, Global};
 
 /// The lines of a whole message.
-fn frame_lines(
+pub(crate) fn frame_lines(
     alloc: Global,
     ctx: &SessionContext,
     place: u64,
@@ -35,7 +35,7 @@ fn frame_lines(
 }
 
 /// The line of a header's fault.
-fn fault_line(alloc: Global, place: u64, fault: HeadFault) -> Result<String, AllocError>
+pub(crate) fn fault_line(alloc: Global, place: u64, fault: HeadFault) -> Result<String, AllocError>
     ensures { IfOk result (λ text. string_bytes text ≡ outcome_lines place 0 (of_fault fault)) }
 {
     let why = fault.answer();
@@ -46,7 +46,7 @@ fn fault_line(alloc: Global, place: u64, fault: HeadFault) -> Result<String, All
 }
 
 /// Writes lines, where they could be allocated.
-fn print(lines: Result<String, AllocError>, buffer: &mut [u8], len: &mut usize) -> u32
+pub(crate) fn print(lines: Result<String, AllocError>, buffer: &mut [u8], len: &mut usize) -> u32
     ensures { (text : List ℕ) → IfOk lines (λ it. string_bytes it ≡ text) → Prints (Some text) (record { status = result; before = buffer.old; behind = buffer.new; len_before = len.old; len_behind = len.new }) }
 {
     match lines {

@@ -1,0 +1,301 @@
+package ristulva
+
+import (
+	"errors"
+	"fmt"
+	"reflect"
+	"strings"
+	"sync"
+	"testing"
+)
+
+var both = Context{AS4: true, IP4: true, IP6: true}
+
+func termsBy(refresh Refreshes) Terms { return Terms{Context: both, Refresh: refresh} }
+
+// An OPEN of AS 65001, 90 seconds, 192.0.2.1, that offers IPv4 unicast, and more.
+func opened(capabilities ...string) []byte {
+	row := digits(append([]string{"010400010001"}, capabilities...)...)
+	size := byte(len(row))
+	return message(1, append(digits("04 fde9 005a c0000201", fmt.Sprintf("%02x02%02x", size+2, size)), row...))
+}
+
+// What is agreed on: RFC 2918, section 4; RFC 7313, section 4; RFC 8654; RFC 7911, section 4; RFC 8950, section 4.
+func TestTermsOf(t *testing.T) {
+	const refresh, enhanced, long, hop6, paths4, paths6 = "0200", "4600", "0600", "0506000100010002", "450400010103", "450400020103"
+	context := Context{Internal: true, IP4: true}
+	for _, it := range []struct {
+		reader, sender []byte
+		wanted         Terms
+	}{
+		{opened(), opened(refresh, enhanced), Terms{Context: context}},
+		{opened(enhanced), opened(refresh, enhanced), Terms{Context: context}},
+		{opened(refresh), opened(enhanced), Terms{Context: context, Refresh: RefreshPlain}},
+		{opened(refresh, enhanced), opened(enhanced), Terms{Context: context, Refresh: RefreshEnhanced}},
+		{opened(long), opened(), Terms{Context: context, LongMessages: true}},
+		{opened(), opened(long), Terms{Context: context, LongBack: true}},
+		{opened(hop6), opened(), Terms{Context: context, Hop6: true}},
+		{opened(), opened(hop6), Terms{Context: context}},
+		{opened(paths4), opened(paths4, paths6), Terms{Context: context, Paths4: true}},
+		{opened(paths4, paths6), opened(paths6), Terms{Context: context, Paths6: true}},
+	} {
+		terms, hold, err := TermsOf(it.reader, append(it.sender, 0))
+		if err != nil || hold != 90 || terms != it.wanted {
+			t.Errorf("%+v, %d and %v, instead of %+v", terms, hold, err, it.wanted)
+		}
+	}
+	for _, it := range []struct {
+		reader, sender []byte
+		wanted         error
+	}{
+		{nil, opened(), ErrIncomplete}, {opened(), opened()[:30], ErrIncomplete}, {message(4, nil), opened(), ErrRefused}, {opened(), message(4, nil), ErrRefused},
+	} {
+		if terms, hold, err := TermsOf(it.reader, it.sender); terms != (Terms{}) || hold != 0 || !errors.Is(err, it.wanted) {
+			t.Errorf("%+v, %d and %v, instead of %v", terms, hold, err, it.wanted)
+		}
+	}
+}
+
+// No message is read where routes have path identifiers, or where a number is none of those that are named.
+func TestTermsOutOfRange(t *testing.T) {
+	for _, terms := range []Terms{{Paths4: true}, {Refresh: RefreshPlain, Paths6: true}, {Refresh: 3}, {Refresh: 255}} {
+		for _, octets := range [][]byte{nil, message(4, nil), message(5, digits("0001 00 01"))} {
+			if it, err := JudgeIn(terms, octets); it != nil || !errors.Is(err, ErrTerms) {
+				t.Errorf("%v and %v", it, err)
+			}
+			if them, rest, err := MessagesIn(terms, octets); them != nil || len(rest) != len(octets) || !errors.Is(err, ErrTerms) {
+				t.Errorf("%v, %x and %v", them, rest, err)
+			}
+		}
+		if decoder, err := NewDecoderIn(terms); decoder != nil || !errors.Is(err, ErrTerms) {
+			t.Errorf("%v and %v", decoder, err)
+		}
+	}
+}
+
+// What a ROUTE-REFRESH says (RFC 2918, section 3; RFC 7313, section 3.2), with the line that `bgp show` prints.
+func TestRefresh(t *testing.T) {
+	for _, it := range []struct {
+		refresh Refreshes
+		body    string
+		wanted  RouteRefresh
+		line    string
+	}{
+		{RefreshPlain, "0001 00 01", RouteRefresh{1, 1, SubtypeRequest, []byte{}}, "request 1 1"},
+		{RefreshPlain, "fffe 01 80", RouteRefresh{65534, 128, SubtypeRequest, []byte{}}, "request 65534 128"},
+		{RefreshPlain, "0001 02 01 00", RouteRefresh{1, 1, SubtypeRequest, []byte{0}}, "request 1 1"},
+		{RefreshEnhanced, "0001 01 01", RouteRefresh{1, 1, SubtypeBegin, []byte{}}, "begin 1 1"},
+		{RefreshEnhanced, "0002 02 01", RouteRefresh{2, 1, SubtypeEnd, []byte{}}, "end 2 1"},
+		{RefreshEnhanced, "0001 ff 01 0102", RouteRefresh{1, 1, 255, []byte{1, 2}}, "ignored 255 1 1"},
+		{RefreshEnhanced, "0001 00 01" + strings.Repeat("07", 4073), RouteRefresh{1, 1, 0, digits(strings.Repeat("07", 4073))}, "request 1 1"},
+	} {
+		octets := message(5, digits(it.body))
+		found, err := JudgeIn(termsBy(it.refresh), octets)
+		if err != nil || found.Verdict() != Refresh || found.Notification() != nil || !reflect.DeepEqual(found.Refresh(), &it.wanted) {
+			t.Fatalf("%v, %v, instead of %+v", found, err, it.wanted)
+		}
+		if line := fmt.Sprintf("0 %d ROUTE-REFRESH %s\n", len(octets), it.line); found.String() != line {
+			t.Errorf("%q instead of %q", found, line)
+		}
+		if *found.Terms() != termsBy(it.refresh) || found.Context() != both || !reflect.DeepEqual(found.Octets(), octets) {
+			t.Errorf("%+v, %+v", found.Terms(), found.Context())
+		}
+		if _, err := found.Clean(false); found.Fields() != nil || found.FaultSection() != "" || found.Facts() != nil || !errors.Is(err, ErrRefresh) {
+			t.Errorf("%v, %v, %v and %v", found.Fields(), found.FaultSection(), found.Facts(), err)
+		}
+		if routes, lost := found.Routes(); routes != nil || lost {
+			t.Errorf("%v, %v", routes, lost)
+		}
+	}
+}
+
+// A body of fewer than four octets (RFC 4271, section 6.1), a mark of another length (RFC 7313, section 5), and what isn't offered.
+func TestRefreshResets(t *testing.T) {
+	short, long := message(5, digits("0001 02")), message(5, digits("0001 01 01", strings.Repeat("00", 4073)))
+	for _, it := range []struct {
+		refresh Refreshes
+		octets  []byte
+		wanted  Said
+		line    string
+	}{
+		{RefreshPlain, short, Said{1, 2, []byte{0, 22}}, "0 22 HEADER reset 1/2 0016\n"},
+		{RefreshEnhanced, short, Said{7, 1, short}, fmt.Sprintf("0 22 ROUTE-REFRESH reset 7/1 %x\n", short)},
+		{RefreshEnhanced, message(5, nil), Said{1, 2, []byte{0, 19}}, "0 19 HEADER reset 1/2 0013\n"},
+		{RefreshEnhanced, long, Said{7, 1, long[:4075]}, fmt.Sprintf("0 4096 ROUTE-REFRESH reset 7/1 %x\n", long[:4075])},
+		{RefreshNone, short, Said{1, 3, []byte{5}}, "0 0 HEADER reset 1/3 05\n"},
+	} {
+		found, err := JudgeIn(termsBy(it.refresh), it.octets)
+		if err != nil || found.Verdict() != Reset || !reflect.DeepEqual(found.Notification(), &it.wanted) || found.Refresh() != nil {
+			t.Fatalf("%v and %v, instead of %+v", found, err, it.wanted)
+		}
+		if found.String() != it.line {
+			t.Errorf("%q instead of %q", found, it.line)
+		}
+	}
+	if found, err := Judge(both, short); err != nil || found.Terms() != nil || found.Notification().Subcode != 3 {
+		t.Errorf("%v and %v", found, err)
+	}
+}
+
+func TestMessagesIn(t *testing.T) {
+	keepalive := message(4, nil)
+	octets := append(append(append([]byte{}, keepalive...), EncodeRefresh(1, 1, SubtypeBegin)...), keepalive...)
+	octets = append(octets, EncodeRefresh(1, 1, SubtypeEnd)[:22]...)
+	found, rest, err := MessagesIn(termsBy(RefreshEnhanced), octets)
+	if err != nil || len(found) != 3 || len(rest) != 22 || found[1].Verdict() != Refresh || found[1].Verdict().String() != "refresh" || found[2].Place() != 42 {
+		t.Errorf("%v, %x, %v", found, rest, err)
+	}
+	for i, line := range []string{"0 19 KEEPALIVE\n", "19 23 ROUTE-REFRESH begin 1 1\n", "42 19 KEEPALIVE\n"} {
+		if text, err := found[i].Text(); text != line || err != nil {
+			t.Errorf("%q and %v instead of %q", text, err, line)
+		}
+	}
+	// Nothing after a reset is read.
+	found, rest, err = MessagesIn(termsBy(RefreshNone), octets)
+	if err != nil || len(found) != 2 || len(rest) != len(octets)-19 || found[1].Verdict() != Reset {
+		t.Errorf("%v, %x, %v", found, rest, err)
+	}
+}
+
+func TestEncodeRefresh(t *testing.T) {
+	for _, subtype := range []uint8{SubtypeRequest, SubtypeBegin, SubtypeEnd, 3, 255} {
+		wanted := message(5, []byte{0x12, 0x34, subtype, 0x56})
+		if octets := EncodeRefresh(0x1234, 0x56, subtype); !reflect.DeepEqual(octets, wanted) {
+			t.Errorf("%x instead of %x", octets, wanted)
+		}
+	}
+}
+
+// What a decoder gives of octets that come in pieces, the last one after the last cut.
+func inPieces(t *testing.T, decoder *Decoder, octets []byte, cuts ...int) []*Message {
+	var messages []*Message
+	at := 0
+	for _, end := range append(cuts, len(octets)) {
+		found, err := decoder.Feed(octets[at:end])
+		if err != nil && !errors.Is(err, ErrReset) {
+			t.Fatal(err)
+		}
+		messages = append(messages, found...)
+		at = end
+	}
+	return messages
+}
+
+// A stream in pieces by terms is what it is whole, however it is cut; of the last two ROUTE-REFRESHes the first is too long for a mark.
+func TestPiecesIn(t *testing.T) {
+	update := message(2, digits("0000 0018 40010100 40020a0202000111700000fde9 400304c0000201 080a"))
+	var octets []byte
+	for _, it := range [][]byte{
+		opened("0200"), message(4, nil), EncodeRefresh(1, 1, SubtypeRequest), update, EncodeRefresh(1, 1, SubtypeBegin),
+		message(5, digits("0001 02 01 00")), message(4, nil), EncodeRefresh(2, 1, SubtypeEnd)[:22],
+	} {
+		octets = append(octets, it...)
+	}
+	for _, it := range []struct {
+		refresh     Refreshes
+		count, held int
+	}{{RefreshNone, 3, 0}, {RefreshPlain, 7, 22}, {RefreshEnhanced, 6, 0}} {
+		whole, _, err := MessagesIn(termsBy(it.refresh), octets)
+		if err != nil || len(whole) != it.count {
+			t.Fatal(len(whole), err)
+		}
+		all := []int{}
+		for cut := range octets {
+			all = append(all, cut)
+		}
+		for cut := -1; cut < len(octets); cut++ {
+			decoder, err := NewDecoderIn(termsBy(it.refresh))
+			if err != nil {
+				t.Fatal(err)
+			}
+			cuts := all
+			if cut >= 0 {
+				cuts = []int{cut}
+			}
+			found := inPieces(t, decoder, octets, cuts...)
+			if len(found) != len(whole) {
+				t.Fatalf("cut at %d: %d messages for %d", cut, len(found), len(whole))
+			}
+			for i := range whole {
+				if !reflect.DeepEqual(told(found[i]), told(whole[i])) || !reflect.DeepEqual(found[i].Refresh(), whole[i].Refresh()) ||
+					*found[i].Terms() != termsBy(it.refresh) || found[i].Context() != both {
+					t.Errorf("cut at %d: %v for %v", cut, told(found[i]), told(whole[i]))
+				}
+			}
+			if held, err := decoder.Held(); held != it.held || err != nil {
+				t.Errorf("cut at %d: %d and %v", cut, held, err)
+			}
+			_ = decoder.Close()
+		}
+	}
+}
+
+// A ROUTE-REFRESH that is refused stops it, and so does one that isn't offered: nothing after it is read.
+func TestDecoderInStops(t *testing.T) {
+	short, mark, request := message(5, digits("0001 01")), message(5, digits("0001 01 01 00")), EncodeRefresh(1, 1, SubtypeRequest)
+	for _, it := range []struct {
+		refresh       Refreshes
+		octets        []byte
+		code, subcode uint8
+	}{{RefreshEnhanced, mark, 7, 1}, {RefreshEnhanced, short, 7, 1}, {RefreshPlain, short, 1, 2}, {RefreshNone, request, 1, 3}} {
+		decoder, _ := NewDecoderIn(termsBy(it.refresh))
+		found, err := decoder.Feed(append(append(message(4, nil), it.octets...), message(4, nil)...))
+		if err != nil || len(found) != 2 || found[1].Verdict() != Reset || found[1].Place() != 19 {
+			t.Fatal(found, err)
+		}
+		if said := found[1].Notification(); said.Code != it.code || said.Subcode != it.subcode {
+			t.Error(said)
+		}
+		for i := 0; i < 2; i++ {
+			if found, err := decoder.Feed(request); found != nil || !errors.Is(err, ErrReset) {
+				t.Error(found, err)
+			}
+		}
+		if held, err := decoder.Held(); held != 0 || err != nil {
+			t.Error(held, err)
+		}
+		_ = decoder.Close()
+	}
+}
+
+func TestClosedDecoderIn(t *testing.T) {
+	decoder, _ := NewDecoderIn(termsBy(RefreshPlain))
+	if found, err := decoder.Feed(EncodeRefresh(1, 1, SubtypeRequest)[:20]); found != nil || err != nil {
+		t.Error(found, err)
+	}
+	for i := 0; i < 2; i++ {
+		if err := decoder.Close(); err != nil {
+			t.Error(err)
+		}
+		if _, err := decoder.Feed(message(4, nil)); !errors.Is(err, ErrClosed) {
+			t.Error(err)
+		}
+		if _, err := decoder.Held(); !errors.Is(err, ErrClosed) {
+			t.Error(err)
+		}
+	}
+}
+
+func TestDecodersInAreShared(t *testing.T) {
+	decoder, _ := NewDecoderIn(termsBy(RefreshPlain))
+	defer decoder.Close()
+	var group sync.WaitGroup
+	counts := make([]int, 4)
+	for i := range counts {
+		group.Add(1)
+		go func(i int) {
+			defer group.Done()
+			for j := 0; j < 100; j++ {
+				found, err := decoder.Feed(EncodeRefresh(1, 1, SubtypeRequest))
+				if err != nil {
+					t.Error(err)
+				}
+				counts[i] += len(found)
+			}
+		}(i)
+	}
+	group.Wait()
+	if counts[0]+counts[1]+counts[2]+counts[3] != 400 {
+		t.Error(counts)
+	}
+}

@@ -1,0 +1,473 @@
+//! Terms and ROUTE-REFRESH: values by hand (RFC 2918; RFC 7313).
+
+use ristulva::{
+    encode_refresh, front, front_in, judge, judge_in, messages_in, terms_of, AgreedTerms, Context,
+    Decoder, DecoderIn, Error, Front, Kind, KindIn, MessageIn, Outcome, Refresh, RefreshOutcome,
+    Refreshes, RouteRefresh, Subtype, Terms, REFRESH_MESSAGE,
+};
+
+const CONTEXT: Context = Context {
+    internal: false,
+    as4: true,
+    ip4: true,
+    ip6: true,
+};
+
+/// In the same context.
+fn terms(refresh: Refreshes) -> Terms {
+    Terms {
+        context: CONTEXT,
+        refresh,
+        ..Terms::default()
+    }
+}
+
+fn message(kind: u8, body: &[u8]) -> Vec<u8> {
+    let len = (19 + body.len() as u16).to_be_bytes();
+    [&[0xff; 16][..], &len, &[kind], body].concat()
+}
+
+const IP4: &[u8] = &[1, 4, 0, 1, 0, 1];
+const REFRESH: &[u8] = &[2, 0];
+const ENHANCED: &[u8] = &[70, 0];
+const LONG: &[u8] = &[6, 0];
+const HOP6: &[u8] = &[5, 6, 0, 1, 0, 1, 0, 2];
+const PATHS4: &[u8] = &[69, 4, 0, 1, 1, 3];
+const PATHS6: &[u8] = &[69, 4, 0, 2, 1, 3];
+
+/// An OPEN of AS 65001 that offers IPv4 unicast, and more.
+fn open(capabilities: &[&[u8]]) -> Vec<u8> {
+    let row = [IP4, &capabilities.concat()].concat();
+    let sizes = [row.len() as u8 + 2, 2, row.len() as u8];
+    let fixed = [4, 0xfd, 0xe9, 0, 90, 192, 0, 2, 1];
+    message(1, &[&fixed[..], &sizes, &row].concat())
+}
+
+/// What is agreed on beyond IPv4 unicast and the same AS.
+fn agreed(reader: &[&[u8]], sender: &[&[u8]]) -> Terms {
+    let AgreedTerms { terms, hold_time } =
+        terms_of(&open(reader), &open(sender)).expect("two OPENs");
+    let context = Context {
+        internal: true,
+        ip4: true,
+        ..Context::default()
+    };
+    assert_eq!((terms.context, hold_time), (context, 90));
+    Terms {
+        context: Context::default(),
+        ..terms
+    }
+}
+
+#[test]
+fn what_is_agreed_on() {
+    let none = Terms::default();
+    let of = |refresh| Terms { refresh, ..none };
+    assert_eq!(agreed(&[], &[REFRESH, ENHANCED]), none);
+    assert_eq!(agreed(&[ENHANCED], &[REFRESH, ENHANCED]), none);
+    assert_eq!(agreed(&[REFRESH], &[ENHANCED]), of(Refreshes::Plain));
+    let enhanced = agreed(&[REFRESH, ENHANCED], &[ENHANCED]);
+    assert_eq!(enhanced, of(Refreshes::Enhanced));
+    let long_messages = true;
+    assert_eq!(
+        agreed(&[LONG], &[]),
+        Terms {
+            long_messages,
+            ..none
+        }
+    );
+    let long_back = true;
+    assert_eq!(agreed(&[], &[LONG]), Terms { long_back, ..none });
+    let hop6 = true;
+    assert_eq!(agreed(&[HOP6], &[]), Terms { hop6, ..none });
+    assert_eq!(agreed(&[], &[HOP6]), none);
+    let paths4 = true;
+    assert_eq!(
+        agreed(&[PATHS4], &[PATHS4, PATHS6]),
+        Terms { paths4, ..none }
+    );
+    let paths6 = true;
+    assert_eq!(
+        agreed(&[PATHS4, PATHS6], &[PATHS6]),
+        Terms { paths6, ..none }
+    );
+}
+
+#[test]
+fn what_is_not_an_open() {
+    let (whole, keepalive) = (open(&[]), message(4, &[]));
+    for (reader, sender) in [
+        (&[][..], &whole[..]),
+        (&whole, &whole[..30]),
+        (&keepalive, &whole),
+        (&whole, &keepalive),
+    ] {
+        assert_eq!(terms_of(reader, sender), None);
+    }
+}
+
+/// No message is read where routes have path identifiers, whatever the octets are.
+#[test]
+fn path_identifiers() {
+    let (paths4, paths6) = (true, true);
+    let plain = terms(Refreshes::Plain);
+    for terms in [Terms { paths4, ..plain }, Terms { paths6, ..plain }] {
+        for octets in [message(4, &[]), message(5, &[0, 1, 0, 1]), vec![]] {
+            assert_eq!(front_in(&terms, &octets), Err(Error::Paths));
+            assert_eq!(judge_in(&terms, &octets), Err(Error::Paths));
+            assert_eq!(messages_in(&terms, &octets).err(), Some(Error::Paths));
+        }
+        assert_eq!(DecoderIn::new(&terms).err(), Some(Error::Paths));
+    }
+    let told = Error::Paths.to_string();
+    assert_eq!(told, "routes have path identifiers, which no call reads");
+}
+
+#[test]
+fn fronts() {
+    let octets = message(5, &[0, 1, 0, 1]);
+    let found = Front::Found {
+        kind: KindIn::Refresh,
+        octets: &octets[..],
+    };
+    assert_eq!(front_in(&terms(Refreshes::Plain), &octets), Ok(found));
+    let more = Front::More { wanted: 23 };
+    assert_eq!(
+        front_in(&terms(Refreshes::Enhanced), &octets[..22]),
+        Ok(more)
+    );
+    let fault = |data| Front::Fault {
+        code: 1,
+        subcode: 3,
+        data,
+    };
+    assert_eq!(
+        front_in(&terms(Refreshes::None), &octets),
+        Ok(fault(&[5][..]))
+    );
+    assert_eq!(
+        front(&octets),
+        Front::Fault {
+            code: 1,
+            subcode: 3,
+            data: &[5]
+        }
+    );
+    let octets = message(4, &[]);
+    let found = Front::Found {
+        kind: KindIn::Base(Kind::Keepalive),
+        octets: &octets[..],
+    };
+    assert_eq!(front_in(&terms(Refreshes::Plain), &octets), Ok(found));
+}
+
+/// The ROUTE-REFRESH that octets are.
+fn judged(refreshes: Refreshes, octets: &[u8]) -> RouteRefresh<'_> {
+    match judge_in(&terms(refreshes), octets) {
+        Ok(Some(MessageIn::Refresh(message))) => message,
+        other => panic!("{other:?}"),
+    }
+}
+
+/// It is accepted, and says this.
+fn says(refreshes: Refreshes, octets: &[u8], afi: u16, safi: u8, subtype: Subtype, line: &str) {
+    let message = judged(refreshes, octets);
+    let rest = &octets[23..];
+    let refresh = Refresh {
+        afi,
+        safi,
+        subtype,
+        rest,
+    };
+    assert_eq!(message.outcome(), &RefreshOutcome::Accepted(refresh));
+    assert_eq!(message.octets(), octets);
+    let printed = format!("0 {} ROUTE-REFRESH {line}\n", octets.len());
+    assert_eq!(message.to_string(), printed);
+    assert_eq!(message.lines(), Ok(printed));
+}
+
+#[test]
+fn what_a_refresh_says() {
+    let (plain, enhanced) = (Refreshes::Plain, Refreshes::Enhanced);
+    let octets = message(5, &[0xff, 0xfe, 0, 128]);
+    says(
+        plain,
+        &octets,
+        65534,
+        128,
+        Subtype::Request,
+        "request 65534 128",
+    );
+    let octets = message(5, &[0, 1, 1, 1]);
+    says(plain, &octets, 1, 1, Subtype::Request, "request 1 1");
+    says(enhanced, &octets, 1, 1, Subtype::Begin, "begin 1 1");
+    let octets = message(5, &[0, 2, 2, 1]);
+    says(enhanced, &octets, 2, 1, Subtype::End, "end 2 1");
+    let octets = message(5, &[0, 1, 255, 1, 7, 7]);
+    says(
+        enhanced,
+        &octets,
+        1,
+        1,
+        Subtype::Ignored(255),
+        "ignored 255 1 1",
+    );
+    says(plain, &octets, 1, 1, Subtype::Request, "request 1 1");
+    let octets = message(5, &[&[0, 1, 0, 1][..], &[0; 4073]].concat());
+    says(enhanced, &octets, 1, 1, Subtype::Request, "request 1 1");
+}
+
+/// It is answered by this NOTIFICATION.
+fn resets(refreshes: Refreshes, octets: &[u8], code: u8, subcode: u8, data: &[u8], line: &str) {
+    let message = judged(refreshes, octets);
+    let data = data.to_vec();
+    let reset = RefreshOutcome::Reset {
+        code,
+        subcode,
+        data,
+    };
+    assert_eq!(message.outcome(), &reset);
+    assert_eq!(message.octets(), octets);
+    assert_eq!(message.to_string(), format!("0 {} {line}\n", octets.len()));
+}
+
+/// A body of fewer than four octets (RFC 4271, section 6.1), and a mark of another length (RFC
+/// 7313, section 5), whose message is the data, as far as there is room for it.
+#[test]
+fn what_ends_the_session() {
+    let (plain, enhanced) = (Refreshes::Plain, Refreshes::Enhanced);
+    let short = message(5, &[0, 1, 1]);
+    resets(plain, &short, 1, 2, &[0, 22], "HEADER reset 1/2 0016");
+    let line = format!(
+        "ROUTE-REFRESH reset 7/1 {}0016050001{:02x}",
+        "ff".repeat(16),
+        1
+    );
+    resets(enhanced, &short, 7, 1, &short, &line);
+    resets(
+        enhanced,
+        &message(5, &[]),
+        1,
+        2,
+        &[0, 19],
+        "HEADER reset 1/2 0013",
+    );
+    let long = message(5, &[&[0, 1, 2, 1][..], &[0; 4073]].concat());
+    let hex: String = long[..4075].iter().map(|it| format!("{it:02x}")).collect();
+    let line = format!("ROUTE-REFRESH reset 7/1 {hex}");
+    resets(enhanced, &long, 7, 1, &long[..4075], &line);
+}
+
+/// All other messages are those of the context, and so is one of type 5 where it isn't offered.
+#[test]
+fn other_messages() {
+    let open = message(1, &[4, 0xfd, 0xe9, 0, 90, 192, 0, 2, 1, 0]);
+    let mut bad_marker = message(5, &[0, 1, 0, 1]);
+    bad_marker[0] = 0;
+    for octets in [open, message(3, &[6, 2, 7]), message(4, &[]), bad_marker] {
+        let wanted = judge(&CONTEXT, &octets).map(MessageIn::Base);
+        assert_eq!(judge_in(&terms(Refreshes::Enhanced), &octets), Ok(wanted));
+    }
+    let octets = message(5, &[0, 1, 0, 1]);
+    let wanted = judge(&CONTEXT, &octets).map(MessageIn::Base);
+    assert_eq!(judge_in(&terms(Refreshes::None), &octets), Ok(wanted));
+    assert_eq!(judge_in(&terms(Refreshes::Plain), &octets[..22]), Ok(None));
+}
+
+#[test]
+fn streams() {
+    let keepalive = message(4, &[]);
+    let [begin, end] = [Subtype::Begin, Subtype::End].map(|it| encode_refresh(1, 1, it));
+    let octets = [&keepalive[..], &begin, &keepalive, &end, &keepalive[..9]].concat();
+    let mut found = messages_in(&terms(Refreshes::Enhanced), &octets).expect("no paths");
+    let mut lines = String::new();
+    let mut offsets = Vec::new();
+    for message in found.by_ref() {
+        offsets.push((message.offset(), message.octets().len(), message.is_reset()));
+        lines += &message.lines().expect("memory");
+        assert!(lines.ends_with(&message.to_string()));
+    }
+    let wanted = [
+        (0, 19, false),
+        (19, 23, false),
+        (42, 19, false),
+        (61, 23, false),
+    ];
+    assert_eq!(offsets, wanted);
+    assert_eq!(found.rest(), &keepalive[..9]);
+    assert!(found.next().is_none());
+    assert!(lines.contains("19 23 ROUTE-REFRESH begin 1 1\n"));
+    assert!(lines.ends_with("61 23 ROUTE-REFRESH end 1 1\n"));
+    // Nothing after a reset is read.
+    let mut found = messages_in(&terms(Refreshes::None), &octets).expect("no paths");
+    assert!(found.by_ref().take(1).all(|it| !it.is_reset()));
+    let Some(MessageIn::Base(message)) = found.next() else {
+        panic!("a header with a fault");
+    };
+    let data = vec![5];
+    let (code, subcode) = (1, 3);
+    let reset = Outcome::Reset {
+        code,
+        subcode,
+        data,
+    };
+    assert_eq!((message.outcome(), message.offset()), (&reset, 19));
+    assert!(found.next().is_none());
+}
+
+#[test]
+fn written() {
+    for number in [0, 1, 2, 3, 255] {
+        let subtype = Subtype::of(number);
+        assert_eq!(subtype.number(), number);
+        let octets = encode_refresh(0x1234, 0x56, subtype);
+        assert_eq!(octets[..], message(5, &[0x12, 0x34, number, 0x56]));
+        assert_eq!(octets.len(), REFRESH_MESSAGE);
+        let accepted = judged(Refreshes::Enhanced, &octets);
+        let RefreshOutcome::Accepted(it) = accepted.outcome() else {
+            panic!("{accepted:?}");
+        };
+        assert_eq!((it.afi, it.safi, it.subtype), (0x1234, 0x56, subtype));
+    }
+}
+
+/// All that a message has.
+fn told(message: &MessageIn<'_>) -> (u64, Vec<u8>, String, String) {
+    let octets = message.octets().to_vec();
+    // Without the octets that an UPDATE or an OPEN borrows, which lie elsewhere.
+    let outcome = match message {
+        MessageIn::Refresh(it) => format!("{:?}", it.outcome()),
+        MessageIn::Base(it) => format!("{:?}", std::mem::discriminant(it.outcome())),
+    };
+    (message.offset(), octets, message.to_string(), outcome)
+}
+
+fn in_pieces(terms: &Terms, octets: &[u8], cuts: &[usize]) -> Vec<(u64, Vec<u8>, String, String)> {
+    let mut decoder = DecoderIn::new(terms).expect("memory");
+    let (mut found, mut at) = (Vec::new(), 0);
+    for end in cuts.iter().copied().chain([octets.len()]) {
+        let mut piece = &octets[at..end];
+        while let Some(message) = decoder.pull(&mut piece) {
+            found.push(told(&message));
+        }
+        at = end;
+    }
+    found
+}
+
+/// The body of an UPDATE: 10.0.0.0/8 by the path 70000 65001, next hop 192.0.2.1.
+const ANNOUNCEMENT: [u8; 30] = [
+    0, 0, 0, 24, 64, 1, 1, 0, 64, 2, 10, 2, 2, 0, 1, 17, 112, 0, 0, 253, 233, 64, 3, 4, 192, 0, 2,
+    1, 8, 10,
+];
+
+/// An OPEN, a KEEPALIVE, two requests, an UPDATE, two marks and a KEEPALIVE. Of the marks the second
+/// is longer than a mark may be: where marks are accepted it is the last message.
+fn stream() -> Vec<u8> {
+    [
+        open(&[REFRESH]),
+        message(4, &[]),
+        message(5, &[0, 1, 0, 1]),
+        message(5, &[0, 2, 0, 1, 7]),
+        message(2, &ANNOUNCEMENT),
+        message(5, &[0, 1, 1, 1]),
+        message(5, &[0, 1, 2, 1, 0]),
+        message(4, &[]),
+    ]
+    .concat()
+}
+
+/// A stream in pieces is what it is whole, however it is cut.
+#[test]
+fn each_cut() {
+    let octets = stream();
+    let all: Vec<usize> = (1..octets.len()).collect();
+    for (refresh, count) in [
+        (Refreshes::None, 3),
+        (Refreshes::Plain, 8),
+        (Refreshes::Enhanced, 7),
+    ] {
+        let terms = terms(refresh);
+        let whole = messages_in(&terms, &octets).expect("no paths");
+        let wanted: Vec<_> = whole.map(|message| told(&message)).collect();
+        assert_eq!(wanted.len(), count);
+        assert_eq!(in_pieces(&terms, &octets, &[]), wanted);
+        assert_eq!(in_pieces(&terms, &octets, &all), wanted);
+        for &cut in &all {
+            assert_eq!(
+                in_pieces(&terms, &octets, &[cut]),
+                wanted,
+                "{refresh:?} cut at {cut}"
+            );
+        }
+    }
+}
+
+/// Without a ROUTE-REFRESH it gives what a decoder gives in the context, whatever is accepted.
+#[test]
+fn in_a_context() {
+    let octets = [
+        open(&[]),
+        message(4, &[]),
+        message(2, &ANNOUNCEMENT),
+        message(2, &[0, 9, 0, 0]),
+    ]
+    .concat();
+    let (mut piece, mut wanted) = (&octets[..], Vec::new());
+    let mut decoder = Decoder::new(&CONTEXT).expect("memory");
+    while let Some(message) = decoder.pull(&mut piece) {
+        wanted.push(told(&MessageIn::Base(message)));
+    }
+    assert_eq!(wanted.len(), 4);
+    for refresh in [Refreshes::None, Refreshes::Plain, Refreshes::Enhanced] {
+        assert_eq!(in_pieces(&terms(refresh), &octets, &[50]), wanted);
+    }
+}
+
+/// Nothing is read after a ROUTE-REFRESH that is refused, nor after one that isn't offered.
+#[test]
+fn behind_a_reset() {
+    let (short, mark) = (message(5, &[0, 1, 1]), message(5, &[0, 1, 1, 1, 0]));
+    let request = message(5, &[0, 1, 0, 1]);
+    for (refresh, bad, taken) in [
+        (Refreshes::Enhanced, &mark, 24),
+        (Refreshes::Enhanced, &short, 22),
+        (Refreshes::Plain, &short, 22),
+        (Refreshes::None, &request, 19),
+    ] {
+        let octets = [&bad[..], &message(4, &[]), &request].concat();
+        for cut in 0..taken {
+            let mut decoder = DecoderIn::new(&terms(refresh)).expect("memory");
+            let mut piece = &octets[..cut];
+            assert!(decoder.pull(&mut piece).is_none());
+            assert_eq!((piece.len(), decoder.held()), (0, cut));
+            piece = &octets[cut..];
+            let first = decoder.pull(&mut piece).expect("a reset");
+            assert!(first.is_reset());
+            if refresh != Refreshes::None {
+                let wanted = judge_in(&terms(refresh), bad).expect("no paths");
+                assert_eq!(Some(first), wanted);
+            }
+            let left = piece.len();
+            assert_eq!(left, octets.len() - taken);
+            assert!(decoder.pull(&mut piece).is_none());
+            assert!(decoder.pull(&mut &request[..]).is_none());
+            assert_eq!((piece.len(), decoder.held()), (left, 0));
+        }
+    }
+}
+
+#[test]
+fn goes_between_threads() {
+    let mut decoder = DecoderIn::new(&terms(Refreshes::Plain)).expect("memory");
+    let octets = message(5, &[0, 1, 0, 1]);
+    assert!(decoder.pull(&mut &octets[..7]).is_none());
+    let decoder = std::thread::spawn(move || {
+        assert!(decoder.pull(&mut &octets[7..]).is_some());
+        decoder
+    })
+    .join()
+    .expect("no panic");
+    assert_eq!(decoder.held(), 0);
+    assert!(format!("{decoder:?}").starts_with("DecoderIn { terms: Terms { context: Context {"));
+}

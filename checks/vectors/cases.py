@@ -1,0 +1,61 @@
+"""The cases of the *.txt of this folder, which say how they are read."""
+import collections
+import pathlib
+import re
+import sys
+
+HERE = pathlib.Path(__file__).resolve().parent
+# A case: its name, its flags, the receiver's OPEN (none: it has flags), the octets, the command with its own flags, and the lines that are wanted.
+Case = collections.namedtuple("Case", "name flags opens octets command want")
+MARKER = "ff" * 16
+
+
+def octets_of(text, names):
+    """The octets of digits, repeated digits and names."""
+    found = b""
+    for word in text.split():
+        count, _, digits = word.rpartition("*")
+        found += names.get(word) or bytes.fromhex(MARKER if word == "M" else digits) * int(count or 1)
+    return found
+
+
+def read_case(lines, names):
+    """A case of its lines."""
+    at = lines.index("want")
+    given = collections.defaultdict(list)
+    for line in lines[:at]:
+        word, _, rest = line.partition(" ")
+        given[word].append(rest)
+    if set(given) - {"case", "flags", "opens", "octets", "command"} or ("flags" in given) == ("opens" in given) or len(given["case"]) != 1:
+        raise ValueError
+    want = [re.sub("<([^>]*)>", lambda it: octets_of(it[1], names).hex(), line) for line in lines[at + 1 :]]
+    opens = octets_of(" ".join(given["opens"]), names) if "opens" in given else None
+    octets = octets_of(" ".join(given["octets"]), names)
+    return Case(given["case"][0], " ".join(given["flags"]).split(), opens, octets, (given["command"] or ["show"])[0].split(), want)
+
+
+def read_cases():
+    """The cases of all files."""
+    found = []
+    for path in sorted(HERE.glob("*.txt")):
+        names = {}
+        for block in re.split(r"\n\s*\n", path.read_text()):
+            lines = [line for line in block.splitlines() if not line.startswith("#")]
+            for line in [it for it in lines if it.startswith("name ")]:
+                _, name, text = line.split(" ", 2)
+                names[name] = octets_of(text, names)
+            lines = [it for it in lines if not it.startswith("name ")]
+            try:
+                found += [read_case(lines, names)] if lines else []
+            except ValueError:
+                sys.exit(f"vectors: {path.name}: this is no case: {lines[0]}")
+    if len({it.name for it in found}) < len(found):
+        sys.exit("vectors: two cases have one name")
+    return found
+
+
+def altered(case):
+    """The case with each line altered in its last letter, and without each line."""
+    for at, line in enumerate(case.want):
+        for other in ([line[:-1] + ("2" if line[-1] == "1" else "1")], []):
+            yield case._replace(want=[*case.want[:at], *other, *case.want[at + 1 :]])

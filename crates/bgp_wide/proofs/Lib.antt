@@ -1,0 +1,4 @@
+pub mod Bases
+pub mod Pulls
+pub mod Headline
+pub mod Without
