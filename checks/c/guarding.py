@@ -20,18 +20,20 @@ ORDER = messages.update(BASIS[4:] + BASIS[:4], ROUTE)
 BAD_AGGREGATOR = messages.update(BASIS + messages.attribute(0xC0, 7, b"\x00" * 7), ROUTE)
 # One that can't be judged: its attributes are longer than it is.
 FAULTY = messages.message(messages.UPDATE, b"\x00\x00\xff\xff")
-# IPv4 and IPv6 unicast, 4-octet AS numbers; and ROUTE-REFRESH, which isn't passed on.
+# IPv4 and IPv6 unicast, 4-octet AS numbers; and ROUTE-REFRESH, in a parameter of its own.
 OPENS = {asn: messages.open_message(asn, 90, f"192.0.2.{asn % 100}") for asn in (OUTER_AS, INNER_AS)}
-REFRESH = OPENS[OUTER_AS][19:28] + bytes([OPENS[OUTER_AS][28] + 4]) + OPENS[OUTER_AS][29:] + b"\x02\x02\x02\x00"
+OFFERING = OPENS[OUTER_AS][19:28] + bytes([OPENS[OUTER_AS][28] + 4]) + OPENS[OUTER_AS][29:] + b"\x02\x02\x02\x00"
+# Requests for both families, of which one is longer than it has to be.
+REFRESHES = messages.refresh(1, 1, 0, b"more"), messages.refresh(2, 1)
 STREAMS = (
-    [messages.message(messages.OPEN, REFRESH), messages.keepalive(), BAD_ORIGIN, UNKNOWN, ORDER, BAD_AGGREGATOR, messages.update(b""), messages.keepalive()],
-    [OPENS[INNER_AS], messages.keepalive(), *messages.announce6(["2001:db8::/32"], [INNER_AS], "2001:db8::1"), UNKNOWN],
+    [messages.message(messages.OPEN, OFFERING), messages.keepalive(), BAD_ORIGIN, UNKNOWN, ORDER, BAD_AGGREGATOR, messages.update(b""), messages.keepalive()],
+    [OPENS[INNER_AS], messages.keepalive(), *messages.announce6(["2001:db8::/32"], [INNER_AS], "2001:db8::1"), UNKNOWN, *REFRESHES],
 )
 
 
 def cleaned(program, stream, *more):
-    """What `PROGRAM clean` writes of a stream."""
-    done = subprocess.run([str(program), "clean", "--as4", "--ip4", "--ip6", "--drop-unknown", *more], input=stream, capture_output=True, check=True)
+    """What `PROGRAM clean` writes of a stream, by whose terms an OPEN keeps ROUTE-REFRESH, as the guard's do."""
+    done = subprocess.run([str(program), "clean", "--as4", "--ip4", "--ip6", "--refresh", "--drop-unknown", *more], input=stream, capture_output=True, check=True)
     return done.stdout
 
 
@@ -79,7 +81,7 @@ def try_streams(made, program, report):
         report(f"an attribute of type 28, passing {types}", (b"abc" in heard[0]) == (types == [28]) and b"xyz" not in heard[0])
         lines = guard.end()
         opens = [f"open outer as {OUTER_AS} id 192.0.2.1 hold 90", f"open inner as {INNER_AS} id 192.0.2.2 hold 90"]
-        changes = ["changed outer OPEN", *["changed outer UPDATE"] * 4, "changed inner UPDATE"]
+        changes = ["changed outer OPEN", *["changed outer UPDATE"] * 4, "changed inner UPDATE", "changed inner ROUTE-REFRESH"]
         report(f"the lines of that, passing {types}", sorted(lines[1:]) == sorted([*opens, *changes, "closed outer", "closed inner"]), lines)
 
 
@@ -146,7 +148,7 @@ def try_all(made, program, report):
 
 # ---- rows
 
-KINDS = ("", "Open", "Update", "Notification", "Keepalive")
+KINDS = ("", "Open", "Update", "Notification", "Keepalive", "Refresh")
 EVENTS = {"stands": 1, "can't be reached": 2, "closes": 3, "stalls": 4}
 
 

@@ -21,10 +21,14 @@ static ristulva_guard guard;
 
 /* ---- octets, as RFC 4271 has them ---- */
 
-/* AS 65001 and 65002, hold time 90: IPv4 unicast, 4-octet AS numbers; and of the first ROUTE-REFRESH (2), which isn't passed on. */
-#define OUTER_OPEN "04 fde9 005a c0000201 10 020e 010400010001 41040000fde9 0200"
+/* AS 65001 and 65002, hold time 90: IPv4 unicast, 4-octet AS numbers; and of the first long messages (6), which the guard leaves out. */
+#define OUTER_OPEN "04 fde9 005a c0000201 10 020e 010400010001 41040000fde9 0600"
 #define CLEAN_OPEN "04 fde9 005a c0000201 0e 020c 010400010001 41040000fde9"
 #define INNER_OPEN "04 fdea 005a c0000202 0e 020c 010400010001 41040000fdea"
+/* The second with ROUTE-REFRESH (2; RFC 2918); a request for IPv4 unicast, and one for VPN routes of IPv4. */
+#define ASKED_OPEN "04 fdea 005a c0000202 10 020e 010400010001 41040000fdea 0200"
+#define REFRESH "0001 00 01"
+#define VPN_REFRESH "0001 00 80"
 /* 10.0.0.0/8 by AS 65000 and 192.0.2.1; the same with an ORIGIN of 3, which is treated as a withdrawal; with attribute 28 after. */
 #define UPDATE "0000 0014 40010100 40020602010000fde8 400304c0000201 080a"
 #define BAD_ORIGIN "0000 0014 40010103 40020602010000fde8 400304c0000201 080a"
@@ -191,6 +195,29 @@ static void come_up(const uint8_t *pass, size_t count, uint8_t one_way)
     want(OUTER, 4, "");
     check_way(OUTER);
     check_way(INNER);
+}
+
+/* A ROUTE-REFRESH goes on to a side that offers it, for a family that both offer; to another its type is unknown. */
+static void refreshes(void)
+{
+    begin((const uint8_t *)"", 0, 0);
+    hands_on(OUTER, 1, OUTER_OPEN, 0);
+    want(INNER, 1, CLEAN_OPEN);
+    hands_on(INNER, 1, ASKED_OPEN, 1);
+    want(OUTER, 1, ASKED_OPEN);
+    hands_on(OUTER, 4, "", 1);
+    want(INNER, 4, "");
+    hands_on(INNER, 4, "", 1);
+    want(OUTER, 4, "");
+    hands_on(OUTER, 5, REFRESH, 1);
+    want(INNER, 5, REFRESH);
+    drops(OUTER, 5, VPN_REFRESH);
+    answers(INNER, 5, REFRESH, 1, 3);
+    want(INNER, 3, "0103 05");
+    want(OUTER, 3, "0604");
+    check_way(INNER);
+    check_way(OUTER);
+    finish();
 }
 
 /* ---- sessions ---- */
@@ -452,6 +479,7 @@ static void *work(void *unused)
 {
     handles();
     faults();
+    refreshes();
     rules();
     ends();
     absences();

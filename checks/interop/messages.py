@@ -2,7 +2,9 @@
 import ipaddress
 import struct
 
-OPEN, UPDATE, NOTIFICATION, KEEPALIVE = 1, 2, 3, 4
+OPEN, UPDATE, NOTIFICATION, KEEPALIVE, ROUTE_REFRESH = 1, 2, 3, 4, 5
+# Capabilities for ROUTE-REFRESH (RFC 2918), and for where one begins and ends (RFC 7313).
+REFRESH_OFFER, ENHANCED_OFFER = b"\x02\x00", b"\x46\x00"
 
 
 def message(kind, body=b""):
@@ -13,12 +15,17 @@ def keepalive():
     return message(KEEPALIVE)
 
 
-def open_message(asn, hold, identifier):
-    """An OPEN that offers IPv4 and IPv6 unicast and AS numbers of four octets."""
-    capabilities = b"\x01\x04\x00\x01\x00\x01" + b"\x01\x04\x00\x02\x00\x01" + b"\x41\x04" + struct.pack(">I", asn)
+def open_message(asn, hold, identifier, more=b""):
+    """An OPEN that offers IPv4 and IPv6 unicast and AS numbers of four octets, and more capabilities."""
+    capabilities = b"\x01\x04\x00\x01\x00\x01" + b"\x01\x04\x00\x02\x00\x01" + b"\x41\x04" + struct.pack(">I", asn) + more
     parameters = b"\x02" + bytes([len(capabilities)]) + capabilities
     fixed = struct.pack(">BHH", 4, asn if asn < 65536 else 23456, hold) + ipaddress.ip_address(identifier).packed
     return message(OPEN, fixed + bytes([len(parameters)]) + parameters)
+
+
+def refresh(afi, safi, subtype=0, more=b""):
+    """A ROUTE-REFRESH (RFC 2918, section 3; RFC 7313, section 3.2)."""
+    return message(ROUTE_REFRESH, struct.pack(">HBB", afi, subtype, safi) + more)
 
 
 def attribute(flags, kind, value):

@@ -24,29 +24,38 @@ def ended_family(context, body):
     return answer[1][0] if is_bare else None
 
 
-def understood(capabilities):
-    """Multiprotocol of IPv4 and IPv6 unicast, each once, and the first for AS numbers of four octets, in their order."""
+def offers_of(context):
+    """The capabilities for ROUTE-REFRESH (RFC 2918) and for where a refresh begins and ends (RFC 7313) that an OPEN keeps in a context, which have no value."""
+    return [("other", 2, b"")] * context.refresh + [("other", 70, b"")] * context.enhanced
+
+
+def understood(capabilities, offers=()):
+    """Multiprotocol of IPv4 and IPv6 unicast and these offers, each once, and the first for AS numbers of four octets, in their order."""
     kept = []
     for it in capabilities:
         is_first_as4 = it[0] == "as4" and all(other[0] != "as4" for other in kept)
-        if is_first_as4 or (it in (("multi", 1, 1), ("multi", 2, 1)) and it not in kept):
+        if is_first_as4 or (it in (("multi", 1, 1), ("multi", 2, 1), *offers) and it not in kept):
             kept.append(it)
     return kept
 
 
+def write_capability(name, *parts):
+    if name == "multi":
+        return b"\x01\x04" + spelled(2, parts[0]) + b"\0" + spelled(1, parts[1])
+    return b"\x41\x04" + spelled(4, parts[0]) if name == "as4" else bytes([parts[0], len(parts[1])]) + parts[1]
+
+
 def write_open(field, hold, identifier, capabilities):
-    row = b""
-    for name, *parts in capabilities:
-        row += b"\x01\x04" + spelled(2, parts[0]) + b"\0" + spelled(1, parts[1]) if name == "multi" else b"\x41\x04" + spelled(4, parts[0])
+    row = b"".join(write_capability(*it) for it in capabilities)
     parameters = bytes([2, len(row)]) + row if row else b""
     return message(OPEN, b"\x04" + spelled(2, field) + spelled(2, hold) + identifier + bytes([len(parameters)]) + parameters)
 
 
-def cleaned_open(is_first, field, hold, identifier, capabilities):
+def cleaned_open(is_first, offers, field, hold, identifier, capabilities):
     """The message, or why none."""
     if not is_first:
         return None, "an OPEN behind the first message"
-    left = understood(capabilities)
+    left = understood(capabilities, offers)
     if any(it[0] == "multi" for it in capabilities) and not any(it[0] == "multi" for it in left):
         return None, "an OPEN without IPv4 or IPv6 unicast among its families"
     return write_open(field, hold, identifier, left), None
@@ -101,20 +110,31 @@ def withdrawal(context, routes):
     return write_update(context, gone, {MP_UNREACH: (2, b"", lost)} if lost else {}, [])
 
 
-def cleaned(context, drops, is_first, octets, refuses=nothing):
-    """The octets of what is passed on of a message, none of a ROUTE-REFRESH, or None and why."""
+def has_effect(context, afi, safi, subtype):
+    """Whether a ROUTE-REFRESH has an effect on its receiver: both offer its family (RFC 2918, section 4), and its subtype has a meaning (RFC 7313)."""
+    return context.uses((afi, safi)) and subtype in (REQUEST, BEGIN, END)
+
+
+def cleaned_refresh(context, afi, safi, subtype):
+    """A ROUTE-REFRESH without what follows its four octets, the reserved octet 0 (RFC 2918, section 3), or a KEEPALIVE instead of one that has none."""
+    if not has_effect(context, afi, safi, subtype):
+        return message(KEEPALIVE, b"")
+    return message(ROUTE_REFRESH, spelled(2, afi) + bytes([subtype, safi]))
+
+
+def cleaned(context, drops, is_first, octets, refuses=nothing, offers=None):
+    """The octets of what is passed on of a message, or None and why. An OPEN keeps these offers, or else those of the context."""
     name, *parts = outcome(context, octets[18], octets[19:])
     if name == "reset":
         return None, f"reset {parts[0]}/{parts[1]}"
     if name == "open":
-        return cleaned_open(is_first, *parts)
+        return cleaned_open(is_first, offers_of(context) if offers is None else offers, *parts)
     if name == "withdraw":
         return withdrawal(context, parts[0]), None
     if name == "take":
         return cleaned_update(context, drops, refuses, octets[19:], *parts[:3]), None
     if name == "refresh":
-        # The OPEN that is passed on doesn't offer it.
-        return b"", None
+        return cleaned_refresh(context, *parts), None
     return octets, None
 
 
@@ -137,7 +157,9 @@ def lesson(context, drops, octets):
     name, *parts = outcome(context, octets[18], octets[19:])
     if name == "open":
         wide = [it[1] for it in parts[3] if it[0] == "as4"]
-        return ("peer", (wide or [parts[0]])[0], parts[1], parts[2], understood(parts[3]))
+        return ("peer", (wide or [parts[0]])[0], parts[1], parts[2], understood(parts[3], offers_of(context)))
+    if name == "refresh" and has_effect(context, *parts):
+        return (name, *parts)
     if name == "told":
         return ("said", *parts)
     if name == "withdraw":

@@ -1,11 +1,13 @@
 """The guard between two speakers: what each event does, and what it requires of its owner. Written from docs/GUARD.md, not from the crate."""
-from cleaning import cleaned, nothing
+from cleaning import cleaned, nothing, offers_of
 from commands import agreed
 from wire import *
 
 OUTER, INNER = "outer", "inner"
 OTHER = {OUTER: INNER, INNER: OUTER}
-NAMES = {OPEN: "Open", UPDATE: "Update", NOTIFICATION: "Notification", KEEPALIVE: "Keepalive"}
+NAMES = {OPEN: "Open", UPDATE: "Update", NOTIFICATION: "Notification", KEEPALIVE: "Keepalive", ROUTE_REFRESH: "Refresh"}
+# An OPEN keeps ROUTE-REFRESH, and not where one begins and ends.
+OFFERS = offers_of(Context(refresh=True, enhanced=False))
 # So much may be on the way to a side while the other is read: 64 KB, less a message.
 ROOM = 65536 - 3 * 4096
 OPEN_SECONDS, DRAIN_SECONDS = 240, 10
@@ -93,12 +95,18 @@ class Guard:
         """The subcode that answers a message out of place, or None."""
         side, other = self.sides[name], self.sides[OTHER[name]]
         both = side.open is not None and other.open is not None
-        fits = {OPEN: side.open is None, UPDATE: both and side.is_ready, KEEPALIVE: both, NOTIFICATION: True}[kind]
+        is_up = both and side.is_ready
+        fits = {OPEN: side.open is None, UPDATE: is_up, ROUTE_REFRESH: is_up, KEEPALIVE: both, NOTIFICATION: True}[kind]
         return None if fits else 1 if not both else 3 if side.is_ready else 2
+
+    def drops_whole(self, name, octets, handed):
+        """Whether nothing is passed on of a message: a KEEPALIVE would replace it, or it is an UPDATE whose routes stay inside."""
+        stays = self.is_one_way and name == INNER and octets[18] == UPDATE
+        return stays or (octets[18] in (UPDATE, ROUTE_REFRESH) and handed[18] == KEEPALIVE)
 
     def hand_on(self, name, octets, handed):
         side, kind, other = self.sides[name], octets[18], self.sides[OTHER[name]]
-        if kind == UPDATE and (self.is_one_way and name == INNER or handed[18] == KEEPALIVE):
+        if self.drops_whole(name, octets, handed):
             self.words.append(f"drops {NAMES[kind]}")
             other.is_owed = True
             return
@@ -121,7 +129,10 @@ class Guard:
         context = self.context(name)
         if kind == OPEN and outcome(context, kind, octets[19:])[0] != "reset" and is_as_zero(octets):
             return self.answer(name, (2, 2), (6, 4))
-        handed, _ = cleaned(context, self.drops, True, octets, self.refuses(name))
+        if kind == ROUTE_REFRESH and not context.refresh:
+            # The other side isn't willing to receive it (RFC 2918, section 4): the type is unknown (RFC 4271, section 6.1).
+            return self.answer(name, (1, 3, bytes([kind])), (6, 4))
+        handed, _ = cleaned(context, self.drops, True, octets, self.refuses(name), OFFERS)
         if handed is not None:
             return self.hand_on(name, octets, handed)
         answer = outcome(context, kind, octets[19:])
@@ -139,7 +150,8 @@ class Guard:
             self.came[name] += bytes([octet])
             if len(side.held) < 19:
                 continue
-            fault = head_fault(side.held[:19])
+            # Until both OPENs are there nobody knows who offers ROUTE-REFRESH: its type is always a message's.
+            fault = head_fault(side.held[:19], True)
             if fault or len(side.held) == number(side.held[16:18]):
                 whole, side.held = side.held, b""
                 if fault:
@@ -229,14 +241,13 @@ def is_law(guard, name):
     NOTIFICATION of the guard's."""
     other = OTHER[name]
     context = guard.context(other)
-    found = [octets for _, octets in frames(guard.came[other])[0]]
+    found = [octets for _, octets in frames(guard.came[other], True)[0]]
     written = b""
     for at, octets in enumerate(found):
-        handed, _ = cleaned(context, guard.drops, at == 0, octets, guard.refuses(other))
-        if handed is None:
+        handed, _ = cleaned(context, guard.drops, at == 0, octets, guard.refuses(other), OFFERS)
+        if handed is None or (octets[18] == ROUTE_REFRESH and not context.refresh):
             break
-        is_dropped = octets[18] == UPDATE and (guard.is_one_way and other == INNER or handed[18] == KEEPALIVE)
-        written += b"" if is_dropped else handed
+        written += b"" if guard.drops_whole(other, octets, handed) else handed
     whole = guard.put[name] if not guard.own[name] else guard.put[name][: -len(guard.own[name])]
     is_put = guard.put[name] == whole + guard.own[name]
     for at in reversed(guard.own_keepalives[name]):

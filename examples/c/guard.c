@@ -79,7 +79,7 @@ static void meet(struct side *side)
 
 static void print_came(const struct side *side, const ristulva_came *came)
 {
-    static const char *const kinds[] = {"", "OPEN", "UPDATE", "NOTIFICATION", "KEEPALIVE"};
+    static const char *const kinds[] = {"", "OPEN", "UPDATE", "NOTIFICATION", "KEEPALIVE", "ROUTE-REFRESH"};
     ristulva_peer peer;
     if (came->what == RISTULVA_CAME_ANSWERED)
         printf("answered %s %u/%u\n", side->name, came->code, came->subcode);

@@ -1,6 +1,7 @@
 //! What happens to a guard, and what it wants from its owner.
 
 use bgp_clean::Limits;
+use bgp_frame::WideKind;
 use bgp_guard::{Came, Guard, Rules, Side};
 use bgp_rows::octets::{Octets, add_octets};
 use bgp_rows::page::Page;
@@ -59,18 +60,26 @@ fn side_of(word: &str) -> Option<Side> {
     }
 }
 
+/// Adds the kind of a message.
+fn put_kind(alloc: Global, page: &mut Page, kind: WideKind) -> Result<(), Trouble> {
+    match kind {
+        WideKind::Base(kind) => page.put_name(alloc, &kind),
+        WideKind::Refresh => page.put("Refresh"),
+    }
+}
+
 /// Adds the outcome of octets.
 fn put_came(alloc: Global, page: &mut Page, came: Came) -> Result<(), Trouble> {
     match came {
         Came::Nothing => Ok(()),
         Came::Dropped { kind } => {
             page.put("drops ")?;
-            page.put_name(alloc, &kind)?;
+            put_kind(alloc, page, kind)?;
             page.put("\n")
         }
         Came::HandedOn { kind, same } => {
             page.put("hands on ")?;
-            page.put_name(alloc, &kind)?;
+            put_kind(alloc, page, kind)?;
             page.put(if same { "\n" } else { " changed\n" })
         }
         Came::Answered { code, subcode } => {

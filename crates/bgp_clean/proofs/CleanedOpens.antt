@@ -3,10 +3,12 @@ use Rattle.bgp_clean.proofs.Prelude.{◌≡◌, ℕ, zero, suc, ◌<◌, ◌≤�
 use Rattle.bgp_clean.proofs.Prelude.{sym, ap, ap₂, subst, ◌∙◌, arith, w16, w32, from_be_bytes, list_any, AllByRecursion, or_parts, unwrap_or, true≢false}
 use Rattle.bgp_clean.proofs.Prelude.{length-append, same_Some, none-some, IPV4, IPV6, AreOctets, Row, AreOctets-front, AreOctets-back, AreOctets-drop}
 use Rattle.bgp_clean.proofs.Prelude.{Capability, Multi, As4, Other, Open, peer_as_of, multi_of, as4_of, IsCapability, parameters_of, joined, IsOpen}
-use Rattle.bgp_clean.proofs.Prelude.{IsParameter, first_as4, is_unicast, row_octets, parameter_octets, HasRange, all-append, Seen, none_seen, goes_on}
-use Rattle.bgp_clean.proofs.Prelude.{seen_behind, understood_behind, understood, cleaned_open, is_multi, lacks_family}
+use Rattle.bgp_clean.proofs.Prelude.{IsParameter, first_as4, is_unicast, row_octets, parameter_octets, HasRange, all-append, Seen, goes_on}
+use Rattle.bgp_clean.proofs.Prelude.{seen_behind, seen_for, understood_behind, understood_with, cleaned_open_with, is_multi, lacks_family}
 use Rattle.bgp_clean.proofs.Understood.{row-shorter}
-use Rattle.bgp_numbers.specs.declared.capability.TheConstants.{MULTIPROTOCOL, FOUR_OCTET_AS}
+use Rattle.bgp_numbers.specs.declared.capability.TheConstants.{MULTIPROTOCOL, FOUR_OCTET_AS, ROUTE_REFRESH, ENHANCED_ROUTE_REFRESH}
+use Rattle.bgp_terms.specs.declared.refreshes.Refreshes.{Refreshes}
+use Rattle.bgp_terms.specs.Prelude.{offers_plain}
 use Rattle.bgp_numbers.specs.declared.parameter.TheConstants.{CAPABILITIES}
 use Rattle.bgp_open.specs.Prelude.{canonical, HasRanges}
 
@@ -27,7 +29,10 @@ unseen seen (Multi family subsequent) e =
     ap₂ (λ (x y : Bool). record seen { ip4 = x; ip6 = y })
     (unseen-by seen.ip4 (is_unicast IPV4 (Multi family subsequent)) p.0) (unseen-by seen.ip6 (is_unicast IPV6 (Multi family subsequent)) p.1)
 unseen seen (As4 number) e = ap (λ (x : Bool). record seen { as4 = x }) (as4-seen seen.as4 e)
-unseen seen (Other code value) e = refl
+unseen seen (Other code value) e =
+    let p = or_parts (cond seen.refresh false (offers_plain ROUTE_REFRESH (Other code value))) (cond seen.enhanced false (offers_plain ENHANCED_ROUTE_REFRESH (Other code value))) e in
+    ap₂ (λ (x y : Bool). record seen { refresh = x; enhanced = y })
+    (unseen-by seen.refresh (offers_plain ROUTE_REFRESH (Other code value)) p.0) (unseen-by seen.enhanced (offers_plain ENHANCED_ROUTE_REFRESH (Other code value)) p.1)
 
 again-by : (seen : Seen) (c : Capability) (rest : List Capability) (t : Bool) → goes_on seen c ≡ t → understood_behind (seen_behind seen c) rest ≡ rest
     → understood_behind seen (cond t (c ∷ rest) rest) ≡ cond t (c ∷ rest) rest
@@ -65,7 +70,9 @@ first_as4-same seen (Multi family subsequent ∷ later) e =
 first_as4-same seen (As4 number ∷ later) e =
     let rest : List Capability = understood_behind (seen_behind seen (As4 number)) later in
     ap (λ (t : Bool). first_as4 (cond (cond t false true) (As4 number ∷ rest) rest)) e
-first_as4-same seen (Other code value ∷ later) e = first_as4-same seen later e
+first_as4-same seen (Other code value ∷ later) e =
+    as4-by (Other code value) (understood_behind (seen_behind seen (Other code value)) later) (goes_on seen (Other code value)) (λ cs. refl)
+    ∙ first_as4-same (seen_behind seen (Other code value)) later e
 
 -- a family that is understood is one of the two
 abbrev Offers : Capability → Type 0
@@ -190,27 +197,32 @@ parameter-shorter [] more le = omega arith
 parameter-shorter (x ∷ row) [] le = absurd (omega arith)
 parameter-shorter (x ∷ row) (y ∷ more) le = omega arith
 
-module _ (o : Open) where
-  pub cleaned-ranges : HasRanges o → HasRanges (cleaned_open o)
-  cleaned-ranges r = record { as_field = r.as_field; hold = r.hold; id = r.id; id_octets = r.id_octets; caps = understood-all HasRange none_seen o.caps r.caps }
+as4_unseen : (offers : Refreshes) → (seen_for offers).as4 ≡ false
+as4_unseen Refreshes.None = refl
+as4_unseen Refreshes.Plain = refl
+as4_unseen Refreshes.Enhanced = refl
 
-  pub cleaned-shorter : length (canonical (cleaned_open o)) ≤ length (canonical o)
+module _ (offers : Refreshes) (o : Open) where
+  pub cleaned-ranges : HasRanges o → HasRanges (cleaned_open_with offers o)
+  cleaned-ranges r = record { as_field = r.as_field; hold = r.hold; id = r.id; id_octets = r.id_octets; caps = understood-all HasRange (seen_for offers) o.caps r.caps }
+
+  pub cleaned-shorter : length (canonical (cleaned_open_with offers o)) ≤ length (canonical o)
   cleaned-shorter =
       let row : List ℕ = row_octets o.caps in
-      let fewer : List ℕ = row_octets (understood o.caps) in
+      let fewer : List ℕ = row_octets (understood_with offers o.caps) in
       omega (
         arith,
-        parameter-shorter fewer row (row-shorter none_seen o.caps),
+        parameter-shorter fewer row (row-shorter (seen_for offers) o.caps),
         length-append o.id (length (parameter_octets row) ∷ parameter_octets row),
         length-append o.id (length (parameter_octets fewer) ∷ parameter_octets fewer),
       )
 
-  pub cleaned-again : cleaned_open (cleaned_open o) ≡ cleaned_open o
-  cleaned-again = ap (λ (caps : List Capability). record o { caps = caps }) (understood-again none_seen o.caps)
+  pub cleaned-again : cleaned_open_with offers (cleaned_open_with offers o) ≡ cleaned_open_with offers o
+  cleaned-again = ap (λ (caps : List Capability). record o { caps = caps }) (understood-again (seen_for offers) o.caps)
 
   -- it offers no families, or one of the two
-  pub cleaned-lacks_none : lacks_family (cleaned_open o) ≡ false
-  cleaned-lacks_none = lacks-by (list_any is_multi (understood o.caps)) _ (offers-any (understood o.caps) (understood-offers none_seen o.caps))
+  pub cleaned-lacks_none : lacks_family (cleaned_open_with offers o) ≡ false
+  cleaned-lacks_none = lacks-by (list_any is_multi (understood_with offers o.caps)) _ (offers-any (understood_with offers o.caps) (understood-offers (seen_for offers) o.caps))
 
-  pub cleaned-peer_as : peer_as_of (cleaned_open o) ≡ peer_as_of o
-  cleaned-peer_as = ap (λ (as4 : Option ℕ). unwrap_or as4 o.as_field) (first_as4-same none_seen o.caps refl)
+  pub cleaned-peer_as : peer_as_of (cleaned_open_with offers o) ≡ peer_as_of o
+  cleaned-peer_as = ap (λ (as4 : Option ℕ). unwrap_or as4 o.as_field) (first_as4-same (seen_for offers) o.caps (as4_unseen offers))

@@ -4,9 +4,11 @@ use Rattle.bgp_clean.proofs.Prelude.{ap, ap₂, subst, ◌∙◌, arith, AllByRe
 use Rattle.bgp_clean.proofs.Prelude.{Notification, length-octets_of, length-IsFrame, Context, Capability, OpenFault, Open, open_notification, reading_of, MpReach, MpUnreach, CanBeWritten, attributes_octets}
 use Rattle.bgp_clean.proofs.Prelude.{attrs_from, parts_of, verdict_of, written_body, Invalid, Note, Routes, Update, Verdict, valid-taken, taken-written}
 use Rattle.bgp_clean.proofs.Prelude.{Message, HasMessageRanges, IsTakenAsItself, of_open_fault, of_reading, of_verdict, notification_in, written, body_of}
-use Rattle.bgp_clean.proofs.Prelude.{invalid_of, CleanFault, family_in, ended_family, handed_update, handed, cleaned_outcome, cleaned, IsClean, no_lesson, or_keepalive, parts_handed, listed, unless_refused, end_of}
-use Rattle.bgp_clean.proofs.Prelude.{Lesson, AreNoLonger, AreUnchanged, announced_nlri, announced_reached, both, gone_lesson, gone_routes, has_any, lesson_by, lesson_from, lesson_in, lesson_of, lesson, nlri_part, nlri_routes, reached_part, reached_routes, taught_by, cleaned_open, lacks_family, cleaned_update, withdrawal}
+use Rattle.bgp_clean.proofs.Prelude.{invalid_of, CleanFault, family_in, ended_family, handed_update, handed, cleaned_outcome, IsCleanWith, no_lesson, or_keepalive, parts_handed, listed, unless_refused, end_of}
+use Rattle.bgp_clean.proofs.Prelude.{Lesson, AreNoLonger, AreUnchanged, announced_nlri, announced_reached, both, gone_lesson, gone_routes, has_any, lesson_by, lesson_from, lesson_in, lesson_of, nlri_part, nlri_routes, reached_part, reached_routes, taught_by, cleaned_open_with, lacks_family, cleaned_update, withdrawal}
 use Rattle.bgp_clean.proofs.Prelude.{none-some, same_Some}
+use Rattle.bgp_terms.specs.declared.refreshes.Refreshes.{Refreshes}
+use Rattle.bgp_clean.specs.Prelude.{cleaned_with, lesson_with}
 use Rattle.bgp_clean.proofs.Understood.{understood_good}
 use Rattle.bgp_frame.specs.Frame as frame
 use Rattle.bgp_frame.proofs.Headers.{below_limit}
@@ -40,7 +42,7 @@ record IsWritten (ctx : Context) (m : frame.Message) (n : Message) : Type 0 wher
   taken : IsTakenAsItself ctx n
   no_longer : length (canonical ctx n) ≤ length (frame.octets_of m)
 
-module _ (ctx : Context) (drops : ℕ → Bool) (refuses : Update → Bool) (k : Kind) (body octets : List ℕ) (are : AreOctets octets) (f : IsFrame (framed k body) octets) where
+module _ (offers : Refreshes) (ctx : Context) (drops : ℕ → Bool) (refuses : Update → Bool) (k : Kind) (body octets : List ℕ) (are : AreOctets octets) (f : IsFrame (framed k body) octets) where
   abbrev m : frame.Message
   m = framed k body
 
@@ -60,22 +62,22 @@ module _ (ctx : Context) (drops : ℕ → Bool) (refuses : Update → Bool) (k :
   }
 
   -- cleaned again it is what is passed on of it, and a receiver learns from it what it says
-  again-from : (first : Bool) (n : Message) → IsWritten ctx m n → handed drops refuses first (ended_family ctx (written ctx n)) n ≡ Ok (n ∷ [])
-      → cleaned ctx drops refuses first (written ctx n) ≡ Ok (n ∷ [])
-  again-from first n w again = ap (cleaned_outcome drops refuses first (ended_family ctx (written ctx n))) w.taken.taken ∙ again
+  again-from : (first : Bool) (n : Message) → IsWritten ctx m n → handed offers drops refuses first (ended_family ctx (written ctx n)) n ≡ Ok (n ∷ [])
+      → cleaned_with offers ctx drops refuses first (written ctx n) ≡ Ok (n ∷ [])
+  again-from first n w again = ap (cleaned_outcome offers drops refuses first (ended_family ctx (written ctx n))) w.taken.taken ∙ again
 
-  learned-from : (n : Message) → IsWritten ctx m n → lesson ctx drops refuses (written ctx n) ≡ lesson_by drops refuses (ended_family ctx (written ctx n)) n
-  learned-from n w = ap (lesson_in drops refuses (ended_family ctx (written ctx n))) w.taken.taken
+  learned-from : (n : Message) → IsWritten ctx m n → lesson_with offers ctx drops refuses (written ctx n) ≡ lesson_by offers drops refuses (ended_family ctx (written ctx n)) n
+  learned-from n w = ap (lesson_in offers drops refuses (ended_family ctx (written ctx n))) w.taken.taken
 
   -- one message
-  clean-from : (first : Bool) (n : Message) → IsWritten ctx m n → handed drops refuses first (ended_family ctx (written ctx n)) n ≡ Ok (n ∷ [])
-      → lesson_by drops refuses (ended_family ctx (written ctx n)) n ≡ lesson ctx drops refuses m → IsClean ctx drops refuses first m (n ∷ [])
+  clean-from : (first : Bool) (n : Message) → IsWritten ctx m n → handed offers drops refuses first (ended_family ctx (written ctx n)) n ≡ Ok (n ∷ [])
+      → lesson_by offers drops refuses (ended_family ctx (written ctx n)) n ≡ lesson_with offers ctx drops refuses m → IsCleanWith offers ctx drops refuses first m (n ∷ [])
   clean-from first n w again taught = record {
     some = omega arith;
     taken = (w.taken, tt);
     again = (again-from first n w again, tt);
     no_longer = (w.no_longer, tt);
-    taught = both-none (lesson ctx drops refuses (written ctx n)) ∙ learned-from n w ∙ taught;
+    taught = both-none (lesson_with offers ctx drops refuses (written ctx n)) ∙ learned-from n w ∙ taught;
   }
 
 -- ---- OPEN
@@ -88,48 +90,48 @@ handed-open true true said ns e = absurd (not_ok _ ns e)
 handed-open true false said ns e = (refl, ok-same said ns e)
 handed-open false lacks said ns e = absurd (not_ok _ ns e)
 
-module _ (ctx : Context) (drops : ℕ → Bool) (refuses : Update → Bool) (first : Bool) (body octets : List ℕ) (are : AreOctets octets) (f : IsFrame (framed Kind.Open body) octets) where
-  open-read : (o : Open) → reading_of body ≡ Ok o → first ≡ true → IsClean ctx drops refuses first (framed Kind.Open body) (Message.Open (cleaned_open o) ∷ [])
+module _ (offers : Refreshes) (ctx : Context) (drops : ℕ → Bool) (refuses : Update → Bool) (first : Bool) (body octets : List ℕ) (are : AreOctets octets) (f : IsFrame (framed Kind.Open body) octets) where
+  open-read : (o : Open) → reading_of body ≡ Ok o → first ≡ true → IsCleanWith offers ctx drops refuses first (framed Kind.Open body) (Message.Open (cleaned_open_with offers o) ∷ [])
   open-read o e is_first =
-      let n : Message = Message.Open (cleaned_open o) in
-      let inside : AreOctets body = body-octets ctx drops refuses Kind.Open body octets are f in
-      let spelled = reading-spells body (omega (arith, long ctx drops refuses Kind.Open body octets are f, f.allowed.least)) o e in
-      let good = understood_good o (read-good o body inside spelled) in
+      let n : Message = Message.Open (cleaned_open_with offers o) in
+      let inside : AreOctets body = body-octets offers ctx drops refuses Kind.Open body octets are f in
+      let spelled = reading-spells body (omega (arith, long offers ctx drops refuses Kind.Open body octets are f, f.allowed.least)) o e in
+      let good = understood_good offers o (read-good o body inside spelled) in
       let w : IsWritten ctx (framed Kind.Open body) n =
-      is-written ctx drops refuses Kind.Open body octets are f n (cleaned-ranges o (read-ranges o body inside spelled))
-      (ap (λ (t : Bool). cond t (some_invalid Invalid.BadOpen) None) good) (omega (arith, cleaned-shorter o, read-short o body inside spelled)) in
-      clean-from ctx drops refuses Kind.Open body octets are f first n w
-      (ap₂ (λ (s t : Bool). cond s (cond t (Err CleanFault.NoFamily) (ok (Message.Open (cleaned_open (cleaned_open o)) ∷ []))) (Err CleanFault.LateOpen)) is_first (cleaned-lacks_none o)
-      ∙ ap (λ (q : Open). ok (Message.Open q ∷ [])) (cleaned-again o))
+      is-written offers ctx drops refuses Kind.Open body octets are f n (cleaned-ranges offers o (read-ranges o body inside spelled))
+      (ap (λ (t : Bool). cond t (some_invalid Invalid.BadOpen) None) good) (omega (arith, cleaned-shorter offers o, read-short o body inside spelled)) in
+      clean-from offers ctx drops refuses Kind.Open body octets are f first n w
+      (ap₂ (λ (s t : Bool). cond s (cond t (Err CleanFault.NoFamily) (ok (Message.Open (cleaned_open_with offers (cleaned_open_with offers o)) ∷ []))) (Err CleanFault.LateOpen)) is_first (cleaned-lacks_none offers o)
+      ∙ ap (λ (q : Open). ok (Message.Open q ∷ [])) (cleaned-again offers o))
       (ap₂ (λ (number : ℕ) (caps : List Capability). record no_lesson { peer = Some (record { number = number; hold = o.hold; id = o.id; caps = caps }) })
-      (cleaned-peer_as o) (ap (λ (q : Open). q.caps) (cleaned-again o))
-      ∙ ap (λ (r : Result Open OpenFault). lesson_in drops refuses None (of_reading r)) (sym e))
+      (cleaned-peer_as offers o) (ap (λ (q : Open). q.caps) (cleaned-again offers o))
+      ∙ ap (λ (r : Result Open OpenFault). lesson_in offers drops refuses None (of_reading r)) (sym e))
 
-  open-by : (ns : List Message) (r : Result Open OpenFault) → reading_of body ≡ r → cleaned_outcome drops refuses first None (of_reading r) ≡ Ok ns
-      → IsClean ctx drops refuses first (framed Kind.Open body) ns
+  open-by : (ns : List Message) (r : Result Open OpenFault) → reading_of body ≡ r → cleaned_outcome offers drops refuses first None (of_reading r) ≡ Ok ns
+      → IsCleanWith offers ctx drops refuses first (framed Kind.Open body) ns
   open-by ns (Ok o) e is =
-      let both = handed-open first (lacks_family o) (Message.Open (cleaned_open o) ∷ []) ns is in
-      subst (λ (q : List Message). IsClean ctx drops refuses first (framed Kind.Open body) q) both.1 (open-read o e both.0)
+      let both = handed-open first (lacks_family o) (Message.Open (cleaned_open_with offers o) ∷ []) ns is in
+      subst (λ (q : List Message). IsCleanWith offers ctx drops refuses first (framed Kind.Open body) q) both.1 (open-read o e both.0)
   open-by ns (Err why) e is = fault-by (open_notification why) is
     where
-      fault-by : (said : Option Notification) → cleaned_outcome drops refuses first None (of_open_fault said) ≡ Ok ns → IsClean ctx drops refuses first (framed Kind.Open body) ns
+      fault-by : (said : Option Notification) → cleaned_outcome offers drops refuses first None (of_open_fault said) ≡ Ok ns → IsCleanWith offers ctx drops refuses first (framed Kind.Open body) ns
       fault-by (Some said) eq = absurd (not_ok _ ns eq)
       fault-by None eq = absurd (not_ok _ ns eq)
 
 -- ---- UPDATE
 
-module _ (ctx : Context) (drops : ℕ → Bool) (refuses : Update → Bool) (body octets : List ℕ) (are : AreOctets octets) (f : IsFrame (framed Kind.Update body) octets) where
+module _ (offers : Refreshes) (ctx : Context) (drops : ℕ → Bool) (refuses : Update → Bool) (body octets : List ℕ) (are : AreOctets octets) (f : IsFrame (framed Kind.Update body) octets) where
   abbrev this : frame.Message
   this = framed Kind.Update body
 
   inside : AreOctets body
-  inside = body-octets ctx drops refuses Kind.Update body octets are f
+  inside = body-octets offers ctx drops refuses Kind.Update body octets are f
 
   fits : length body ≤ 4077
-  fits = short ctx drops refuses Kind.Update body octets are f
+  fits = short offers ctx drops refuses Kind.Update body octets are f
 
   update-written : (u : Update) → CanBeWritten ctx u body → IsWritten ctx this (Message.Update u)
-  update-written u can = is-written ctx drops refuses Kind.Update body octets are f (Message.Update u) can.ranges can.valid can.no_longer
+  update-written u can = is-written offers ctx drops refuses Kind.Update body octets are f (Message.Update u) can.ranges can.valid can.no_longer
 
   read-back : (u : Update) → CanBeWritten ctx u body → verdict_of ctx (written_body ctx u) ≡ Verdict.Take u []
   read-back u can = valid-taken ctx u can.ranges can.valid (omega (arith, can.no_longer, fits))
@@ -147,14 +149,14 @@ module _ (ctx : Context) (drops : ℕ → Bool) (refuses : Update → Bool) (bod
     no-end : ended_family ctx (written ctx (Message.Update x)) ≡ None
     no-end = unending ctx x (written_body ctx x) [] (read-back x p.can) p.has
 
-    part-again : (first : Bool) → cleaned ctx drops refuses first (written ctx (Message.Update x)) ≡ Ok (Message.Update x ∷ [])
+    part-again : (first : Bool) → cleaned_with offers ctx drops refuses first (written ctx (Message.Update x)) ≡ Ok (Message.Update x ∷ [])
     part-again first =
-        again-from ctx drops refuses Kind.Update body octets are f first (Message.Update x) (update-written x p.can)
+        again-from offers ctx drops refuses Kind.Update body octets are f first (Message.Update x) (update-written x p.can)
         (ap₂ (λ (o : Option ℕ) (v : Update). ok (handed_update refuses o v)) no-end p.same ∙ ap (λ (us : List Update). ok (or_keepalive us)) p.alone)
 
-    part-learned : lesson ctx drops refuses (written ctx (Message.Update x)) ≡ l
+    part-learned : lesson_with offers ctx drops refuses (written ctx (Message.Update x)) ≡ l
     part-learned =
-        learned-from ctx drops refuses Kind.Update body octets are f (Message.Update x) (update-written x p.can)
+        learned-from offers ctx drops refuses Kind.Update body octets are f (Message.Update x) (update-written x p.can)
         ∙ ap₂ (λ (o : Option ℕ) (v : Update). record (lesson_of refuses v) { ended = o }) no-end p.same
         ∙ ap (λ (k : Lesson). record k { ended = None }) p.says
         ∙ ap (λ (o : Option ℕ). record l { ended = o }) (sym p.goes_on)
@@ -162,9 +164,9 @@ module _ (ctx : Context) (drops : ℕ → Bool) (refuses : Update → Bool) (bod
   -- some parts in order
   record AreParts (us : List Update) (l : Lesson) : Type 0 where
     taken : AllByRecursion (IsTakenAsItself ctx) (map Message.Update us)
-    again : (first : Bool) → AreUnchanged ctx drops refuses first (map Message.Update us)
+    again : (first : Bool) → AreUnchanged offers ctx drops refuses first (map Message.Update us)
     no_longer : AreNoLonger ctx this (map Message.Update us)
-    taught : lesson_from ctx drops refuses (map Message.Update us) ≡ l
+    taught : lesson_from offers ctx drops refuses (map Message.Update us) ≡ l
 
   no-parts : AreParts [] no_lesson
   no-parts = record { taken = tt; again = λ first. tt; no_longer = tt; taught = refl }
@@ -267,19 +269,19 @@ module _ (ctx : Context) (drops : ℕ → Bool) (refuses : Update → Bool) (bod
         (given-more (has_any (nlri_routes s)) _ _ _ _ (given-nlri (has_any (nlri_routes s)) refl)
         (given-last (has_any (reached_routes s)) _ _ (given-reached (has_any (reached_routes s)) refl)))
 
-  parts-end : (us : List Update) (l : Lesson) (first : Bool) → AreParts us l → l ≡ lesson ctx drops refuses this → IsClean ctx drops refuses first this (or_keepalive us)
+  parts-end : (us : List Update) (l : Lesson) (first : Bool) → AreParts us l → l ≡ lesson_with offers ctx drops refuses this → IsCleanWith offers ctx drops refuses first this (or_keepalive us)
   parts-end [] l first ps taught =
-      clean-from ctx drops refuses Kind.Update body octets are f first Message.Keepalive
-      (is-written ctx drops refuses Kind.Update body octets are f Message.Keepalive tt refl (omega arith)) refl (ps.taught ∙ taught)
+      clean-from offers ctx drops refuses Kind.Update body octets are f first Message.Keepalive
+      (is-written offers ctx drops refuses Kind.Update body octets are f Message.Keepalive tt refl (omega arith)) refl (ps.taught ∙ taught)
   parts-end (u ∷ us) l first ps taught = record { some = omega arith; taken = ps.taken; again = ps.again first; no_longer = ps.no_longer; taught = ps.taught ∙ taught }
 
   withdraw-clean : (first : Bool) (routes : Routes) (notes : List Note) → verdict_of ctx body ≡ Verdict.Withdraw routes notes
-      → IsClean ctx drops refuses first this (Message.Update (withdrawal routes) ∷ [])
+      → IsCleanWith offers ctx drops refuses first this (Message.Update (withdrawal routes) ∷ [])
   withdraw-clean first routes notes e =
       let made = withdrawal-written ctx body inside routes notes e in
       parts-end (withdrawal routes ∷ []) (gone_lesson routes) first
       (given-last true (withdrawal routes) (gone_lesson routes) (withdrawal-part routes made.1 made.0))
-      (ap (λ (v : Verdict). lesson_in drops refuses (family_in ctx (parts_of body)) (of_verdict v)) (sym e))
+      (ap (λ (v : Verdict). lesson_in offers drops refuses (family_in ctx (parts_of body)) (of_verdict v)) (sym e))
 
   module _ (first : Bool) (u : Update) (notes : List Note) (e : verdict_of ctx body ≡ Verdict.Take u notes) where
     abbrev stays : Update
@@ -289,12 +291,12 @@ module _ (ctx : Context) (drops : ℕ → Bool) (refuses : Update → Bool) (bod
     read = taken-written ctx body u notes inside e
 
     -- what is learned from the message
-    told : (family : Option ℕ) → family_in ctx (parts_of body) ≡ family → lesson_by drops refuses family (Message.Update u) ≡ lesson ctx drops refuses this
+    told : (family : Option ℕ) → family_in ctx (parts_of body) ≡ family → lesson_by offers drops refuses family (Message.Update u) ≡ lesson_with offers ctx drops refuses this
     told family is =
-        ap (λ (o : Option ℕ). lesson_by drops refuses o (Message.Update u)) (sym is)
-        ∙ ap (λ (v : Verdict). lesson_in drops refuses (family_in ctx (parts_of body)) (of_verdict v)) (sym e)
+        ap (λ (o : Option ℕ). lesson_by offers drops refuses o (Message.Update u)) (sym is)
+        ∙ ap (λ (v : Verdict). lesson_in offers drops refuses (family_in ctx (parts_of body)) (of_verdict v)) (sym e)
 
-    plain-clean : family_in ctx (parts_of body) ≡ None → IsClean ctx drops refuses first this (or_keepalive (parts_handed refuses stays))
+    plain-clean : family_in ctx (parts_of body) ≡ None → IsCleanWith offers ctx drops refuses first this (or_keepalive (parts_handed refuses stays))
     plain-clean is =
         let all = all-parts u stays refl (dropped-written drops ctx u body read) in
         parts-end (parts_handed refuses stays) (lesson_of refuses stays) first all (ap (λ (o : Option ℕ). record (lesson_of refuses stays) { ended = o }) (lesson-ended refuses stays) ∙ told None is)
@@ -303,13 +305,13 @@ module _ (ctx : Context) (drops : ℕ → Bool) (refuses : Update → Bool) (bod
     abbrev EndsAgain : ℕ → Type 0
     EndsAgain g =
         CanBeWritten ctx (end_of g) body × (family_in ctx (parts_of (written_body ctx (end_of g))) ≡ Some g)
-        × (lesson_by drops refuses (Some g) (Message.Update (end_of g)) ≡ lesson_by drops refuses (Some g) (Message.Update u))
+        × (lesson_by offers drops refuses (Some g) (Message.Update (end_of g)) ≡ lesson_by offers drops refuses (Some g) (Message.Update u))
 
     read-end : (o : Option MpUnreach) → u ≡ end_update o → CanBeWritten ctx (end_update o) body
     read-end o same = subst (λ (v : Update). CanBeWritten ctx v body) same read
 
-    same-lesson : (g : ℕ) (o : Option MpUnreach) → u ≡ end_update o → lesson_by drops refuses (Some g) (Message.Update (end_update o)) ≡ lesson_by drops refuses (Some g) (Message.Update u)
-    same-lesson g o same = ap (λ (v : Update). lesson_by drops refuses (Some g) (Message.Update v)) (sym same)
+    same-lesson : (g : ℕ) (o : Option MpUnreach) → u ≡ end_update o → lesson_by offers drops refuses (Some g) (Message.Update (end_update o)) ≡ lesson_by offers drops refuses (Some g) (Message.Update u)
+    same-lesson g o same = ap (λ (v : Update). lesson_by offers drops refuses (Some g) (Message.Update v)) (sym same)
 
     ends-again : (o : Option MpUnreach) (g : ℕ) → family_of_end o ≡ Some g → u ≡ end_update o → EndsAgain g
     unfolding attrs_from
@@ -331,44 +333,44 @@ module _ (ctx : Context) (drops : ℕ → Bool) (refuses : Update → Bool) (bod
     ends-again (Some (MpUnreach.Ip4 (p ∷ ps))) g of same = absurd (none-some g of)
     ends-again (Some (MpUnreach.Ip6 (p ∷ ps))) g of same = absurd (none-some g of)
 
-    end-by : (o : Option MpUnreach) (g : ℕ) → family_of_end o ≡ Some g → u ≡ end_update o → family_in ctx (parts_of body) ≡ Some g → IsClean ctx drops refuses first this (Message.Update (end_of g) ∷ [])
+    end-by : (o : Option MpUnreach) (g : ℕ) → family_of_end o ≡ Some g → u ≡ end_update o → family_in ctx (parts_of body) ≡ Some g → IsCleanWith offers ctx drops refuses first this (Message.Update (end_of g) ∷ [])
     end-by o g of same is =
         let end = ends-again o g of same in
         let again : ended_family ctx (written ctx (Message.Update (end_of g))) ≡ Some g = end.1 in
-        clean-from ctx drops refuses Kind.Update body octets are f first (Message.Update (end_of g)) (update-written (end_of g) end.0)
+        clean-from offers ctx drops refuses Kind.Update body octets are f first (Message.Update (end_of g)) (update-written (end_of g) end.0)
         (ap (λ (q : Option ℕ). ok (handed_update refuses q (cleaned_update drops (end_of g)))) again)
-        (ap (λ (q : Option ℕ). lesson_by drops refuses q (Message.Update (end_of g))) again ∙ end.2 ∙ told (Some g) is)
+        (ap (λ (q : Option ℕ). lesson_by offers drops refuses q (Message.Update (end_of g))) again ∙ end.2 ∙ told (Some g) is)
 
-    taken-by : (ns : List Message) (family : Option ℕ) → family_in ctx (parts_of body) ≡ family → handed_update refuses family stays ≡ ns → IsClean ctx drops refuses first this ns
-    taken-by ns None is handed = subst (λ (q : List Message). IsClean ctx drops refuses first this q) handed (plain-clean is)
+    taken-by : (ns : List Message) (family : Option ℕ) → family_in ctx (parts_of body) ≡ family → handed_update refuses family stays ≡ ns → IsCleanWith offers ctx drops refuses first this ns
+    taken-by ns None is handed = subst (λ (q : List Message). IsCleanWith offers ctx drops refuses first this q) handed (plain-clean is)
     taken-by ns (Some g) is handed =
         let end : IsEnding u g = taken-ending ctx u body notes g e is in
-        subst (λ (q : List Message). IsClean ctx drops refuses first this q) handed (end-by end.unreach g end.of_family end.is is)
+        subst (λ (q : List Message). IsCleanWith offers ctx drops refuses first this q) handed (end-by end.unreach g end.of_family end.is is)
 
-  update-by : (first : Bool) (ns : List Message) (v : Verdict) → verdict_of ctx body ≡ v → cleaned_outcome drops refuses first (family_in ctx (parts_of body)) (of_verdict v) ≡ Ok ns
-      → IsClean ctx drops refuses first this ns
+  update-by : (first : Bool) (ns : List Message) (v : Verdict) → verdict_of ctx body ≡ v → cleaned_outcome offers drops refuses first (family_in ctx (parts_of body)) (of_verdict v) ≡ Ok ns
+      → IsCleanWith offers ctx drops refuses first this ns
   update-by first ns (Verdict.Take u notes) e is = taken-by first u notes e ns (family_in ctx (parts_of body)) refl (ok-same _ ns is)
   update-by first ns (Verdict.Withdraw routes notes) e is =
-      subst (λ (q : List Message). IsClean ctx drops refuses first this q) (ok-same (Message.Update (withdrawal routes) ∷ []) ns is) (withdraw-clean first routes notes e)
+      subst (λ (q : List Message). IsCleanWith offers ctx drops refuses first this q) (ok-same (Message.Update (withdrawal routes) ∷ []) ns is) (withdraw-clean first routes notes e)
   update-by first ns (Verdict.Reset why) e is = absurd (not_ok _ ns is)
 
 -- ---- every message
 
-module _ (ctx : Context) (drops : ℕ → Bool) (refuses : Update → Bool) (first : Bool) (octets : List ℕ) (ns : List Message) (are : AreOctets octets) where
-  clean-by : (k : Kind) (body : List ℕ) → IsFrame (framed k body) octets → cleaned ctx drops refuses first (framed k body) ≡ Ok ns → IsClean ctx drops refuses first (framed k body) ns
-  clean-by Kind.Open body f is = open-by ctx drops refuses first body octets are f ns (reading_of body) refl is
-  clean-by Kind.Update body f is = update-by ctx drops refuses body octets are f first ns (verdict_of ctx body) refl is
+module _ (offers : Refreshes) (ctx : Context) (drops : ℕ → Bool) (refuses : Update → Bool) (first : Bool) (octets : List ℕ) (ns : List Message) (are : AreOctets octets) where
+  clean-by : (k : Kind) (body : List ℕ) → IsFrame (framed k body) octets → cleaned_with offers ctx drops refuses first (framed k body) ≡ Ok ns → IsCleanWith offers ctx drops refuses first (framed k body) ns
+  clean-by Kind.Open body f is = open-by offers ctx drops refuses first body octets are f ns (reading_of body) refl is
+  clean-by Kind.Update body f is = update-by offers ctx drops refuses body octets are f first ns (verdict_of ctx body) refl is
   clean-by Kind.Notification body f is =
       let said : Message = Message.Notification (notification_in body) in
-      let two : 2 ≤ length body = omega (arith, long ctx drops refuses Kind.Notification body octets are f, f.allowed.least) in
-      subst (λ (q : List Message). IsClean ctx drops refuses first (framed Kind.Notification body) q) (ok-same (said ∷ []) ns is)
-      (clean-from ctx drops refuses Kind.Notification body octets are f first said
-      (is-written ctx drops refuses Kind.Notification body octets are f said tt refl (omega (arith, two, length-drop 2 body))) refl refl)
+      let two : 2 ≤ length body = omega (arith, long offers ctx drops refuses Kind.Notification body octets are f, f.allowed.least) in
+      subst (λ (q : List Message). IsCleanWith offers ctx drops refuses first (framed Kind.Notification body) q) (ok-same (said ∷ []) ns is)
+      (clean-from offers ctx drops refuses Kind.Notification body octets are f first said
+      (is-written offers ctx drops refuses Kind.Notification body octets are f said tt refl (omega (arith, two, length-drop 2 body))) refl refl)
   clean-by Kind.Keepalive body f is =
-      subst (λ (q : List Message). IsClean ctx drops refuses first (framed Kind.Keepalive body) q) (ok-same (Message.Keepalive ∷ []) ns is)
-      (clean-from ctx drops refuses Kind.Keepalive body octets are f first Message.Keepalive
-      (is-written ctx drops refuses Kind.Keepalive body octets are f Message.Keepalive tt refl (omega arith)) refl refl)
+      subst (λ (q : List Message). IsCleanWith offers ctx drops refuses first (framed Kind.Keepalive body) q) (ok-same (Message.Keepalive ∷ []) ns is)
+      (clean-from offers ctx drops refuses Kind.Keepalive body octets are f first Message.Keepalive
+      (is-written offers ctx drops refuses Kind.Keepalive body octets are f Message.Keepalive tt refl (omega arith)) refl refl)
 
-pub handed-clean : (ctx : Context) (drops : ℕ → Bool) (refuses : Update → Bool) (first : Bool) (m : frame.Message) (octets : List ℕ) (ns : List Message)
-    → AreOctets octets → IsFrame m octets → cleaned ctx drops refuses first m ≡ Ok ns → IsClean ctx drops refuses first m ns
-handed-clean ctx drops refuses first m octets ns are f is = clean-by ctx drops refuses first octets ns are m.kind m.body f is
+pub handed-clean : (offers : Refreshes) (ctx : Context) (drops : ℕ → Bool) (refuses : Update → Bool) (first : Bool) (m : frame.Message) (octets : List ℕ) (ns : List Message)
+    → AreOctets octets → IsFrame m octets → cleaned_with offers ctx drops refuses first m ≡ Ok ns → IsCleanWith offers ctx drops refuses first m ns
+handed-clean offers ctx drops refuses first m octets ns are f is = clean-by offers ctx drops refuses first octets ns are m.kind m.body f is

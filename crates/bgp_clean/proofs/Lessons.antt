@@ -1,6 +1,7 @@
 -- What a receiver learns from the messages that replace an UPDATE: what the UPDATE says.
 use Rattle.bgp_clean.proofs.Prelude.{◌≡◌, ℕ, Bool, true, false, ltb, List, [], ◌∷◌, ◌++◌, length, Option, Some, None, option_or, refl, ap, ap₂, ◌∙◌, append-nil, false≢true, or_parts, ltb-false, nil_from_length, arith}
 use Rattle.bgp_clean.proofs.Prelude.{PrefixValue, MpReach, attrs_from, gone_ip4, gone_ip6, Routes, Update, Message, cleaned_update, unreach_of, withdrawal}
+use Rattle.bgp_terms.specs.declared.refreshes.Refreshes.{Refreshes}
 use Rattle.bgp_clean.proofs.Prelude.{Announced, Lesson, announced_lesson, announced_nlri, announced_reached, both, gone_lesson, gone_routes, has_any, lesson_by, lesson_of, nlri_part, nlri_routes, no_lesson, reached_part, reached_routes, taught_by}
 use Rattle.bgp_clean.proofs.Dropped.{dropped-again}
 
@@ -85,6 +86,6 @@ module _ (refuses : Update → Bool) where
 
 -- ---- without the attributes that are left out, the same is learned
 
-pub cleaned-learned : (drops : ℕ → Bool) (refuses : Update → Bool) (family : Option ℕ) (u : Update)
-    → lesson_by drops refuses family (Message.Update (cleaned_update drops u)) ≡ lesson_by drops refuses family (Message.Update u)
-cleaned-learned drops refuses family u = ap (λ (v : Update). record (lesson_of refuses v) { ended = family }) (dropped-again drops u)
+pub cleaned-learned : (offers : Refreshes) (drops : ℕ → Bool) (refuses : Update → Bool) (family : Option ℕ) (u : Update)
+    → lesson_by offers drops refuses family (Message.Update (cleaned_update drops u)) ≡ lesson_by offers drops refuses family (Message.Update u)
+cleaned-learned offers drops refuses family u = ap (λ (v : Update). record (lesson_of refuses v) { ended = family }) (dropped-again drops u)

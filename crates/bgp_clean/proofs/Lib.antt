@@ -15,3 +15,4 @@ pub mod Streams
 pub mod Understood
 pub mod Withdrawing
 pub mod Outcomes
+pub mod Wides

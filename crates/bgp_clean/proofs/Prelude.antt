@@ -44,5 +44,5 @@ pub use Rattle.bgp_update.proofs.Verdicts.{has-parts, taken-of, withdrawn-of}
 pub use Rattle.bgp_msg.specs.Prelude.{HasMessageRanges, IsTakenAsItself, body_of, invalid_of, is_reset, kind_of, notification_in, notification_octets, of_body, of_open_fault, of_reading, of_verdict, out_of, outcome_value, stream_rules, written}
 pub use Rattle.bgp_msg.specs.declared.message.Message.{Message}
 pub use Rattle.bgp_msg.specs.declared.outcome.Outcome.{Outcome}
-pub use Rattle.bgp_clean.specs.Prelude.{Announced, AreNoLonger, AreUnchanged, IsClean, IsCleanStream, IsCleaned, Lesson, NoLonger, Seen, all_of, announced_lesson, announced_nlri, announced_reached, bare_attrs, bare_family, both, cleaned, cleaned_attrs, cleaned_each, cleaned_from, cleaned_open, cleaned_outcome, cleaned_stream, cleaned_update, end_of, end_of_rib, end_unreach, ended_family, family_in, family_of_kept, family_of_marks, gone_lesson, gone_routes, goes_on, handed, handed_then, handed_update, has_any, hop_of, hop_part, is_multi, joined_messages, lacks_family, lesson, lesson_by, lesson_from, lesson_in, lesson_of, link_of, listed, nlri_part, nlri_routes, no_lesson, none_seen, octets_handed, or_keepalive, outcome_of, parts_handed, reach_left, reached_part, reached_routes, refuses_in, seen_behind, seen_value, taught_by, understood, understood_behind, unless_refused, unreach_of, withdrawal}
+pub use Rattle.bgp_clean.specs.Prelude.{Announced, AreNoLonger, AreUnchanged, IsClean, IsCleanStream, IsCleanWith, IsCleaned, Lesson, NoLonger, Seen, all_of, announced_lesson, announced_nlri, announced_reached, bare_attrs, bare_family, both, cleaned, cleaned_attrs, cleaned_each, cleaned_from, cleaned_open, cleaned_open_with, cleaned_outcome, cleaned_with, cleaned_stream, cleaned_update, end_of, end_of_rib, end_unreach, ended_family, family_in, family_of_kept, family_of_marks, gone_lesson, gone_routes, goes_on, handed, handed_then, handed_update, has_any, hop_of, hop_part, is_multi, joined_messages, lacks_family, lesson, lesson_by, lesson_from, lesson_in, lesson_of, link_of, listed, nlri_part, nlri_routes, no_lesson, none_seen, octets_handed, or_keepalive, outcome_of, parts_handed, reach_left, reached_part, reached_routes, refuses_in, seen_behind, seen_for, seen_value, taught_by, understood, understood_behind, understood_with, unless_refused, unreach_of, withdrawal}
 pub use Rattle.bgp_clean.specs.declared.fault.CleanFault.{CleanFault}

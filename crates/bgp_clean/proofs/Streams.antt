@@ -7,29 +7,30 @@ use Rattle.bgp_frame.specs.declared.end.End.{End}
 use Rattle.bgp_frame.specs.Frame as frame
 use Rattle.bgp_frame.specs.Stream as stream
 use Rattle.bgp_msg.specs.Prelude.{canonical}
+use Rattle.bgp_terms.specs.declared.refreshes.Refreshes.TheVariants as refreshes
 use Rattle.bgp_clean.proofs.Handed.{handed-clean}
 use Rattle.bgp_frame.specs.Kind.{plain}
 use Rattle.bgp_frame.specs.steps.AreTypes.{plain-are}
 
 module _ (ctx : Context) (drops : ℕ → Bool) (refuses : Update → Bool) where
   -- messages that are unchanged, and others after them
-  more-unchanged : (first : Bool) (ns later : List Message) → 0 < length ns → AreUnchanged ctx drops refuses first ns → AreUnchanged ctx drops refuses false later
-      → AreUnchanged ctx drops refuses first (ns ++ later)
+  more-unchanged : (first : Bool) (ns later : List Message) → 0 < length ns → AreUnchanged refreshes.None ctx drops refuses first ns → AreUnchanged refreshes.None ctx drops refuses false later
+      → AreUnchanged refreshes.None ctx drops refuses first (ns ++ later)
   more-unchanged first [] later some all rest = absurd (omega (arith, some))
   more-unchanged first (n ∷ []) later some all rest = (all.0, rest)
   more-unchanged first (n ∷ m ∷ ns) later some all rest = (all.0, more-unchanged false (m ∷ ns) later (omega arith) all.1 rest)
 
   -- cleaned one by one they are unchanged
-  each-alone : (first : Bool) (ns : List Message) → AreUnchanged ctx drops refuses first ns → cleaned_from ctx drops refuses first (map (written ctx) ns) ≡ map (λ n. n ∷ []) ns
+  each-alone : (first : Bool) (ns : List Message) → AreUnchanged refreshes.None ctx drops refuses first ns → cleaned_from ctx drops refuses first (map (written ctx) ns) ≡ map (λ n. n ∷ []) ns
   each-alone first [] all = refl
   each-alone first (n ∷ ns) all = ap₂ (λ (r : Result (List Message) CleanFault) (later : List (List Message)). handed_then r later) all.0 (each-alone false ns all.1)
 
   -- what is claimed of the messages that are passed on, of a stream from its first message or a later one
   record AreClean (first : Bool) (ms : List frame.Message) (each : List (List Message)) : Type 0 where
     taken : AllByRecursion (IsTakenAsItself ctx) (joined_messages each)
-    again : AreUnchanged ctx drops refuses first (joined_messages each)
+    again : AreUnchanged refreshes.None ctx drops refuses first (joined_messages each)
     no_longer : NoLonger ctx each ms
-    taught : map (lesson_from ctx drops refuses) each ≡ map (lesson ctx drops refuses) (take (length each) ms)
+    taught : map (lesson_from refreshes.None ctx drops refuses) each ≡ map (lesson ctx drops refuses) (take (length each) ms)
 
   none-clean : (first : Bool) (ms : List frame.Message) → AreClean first ms []
   none-clean first ms = record { taken = tt; again = tt; no_longer = tt; taught = refl }
@@ -45,7 +46,7 @@ module _ (ctx : Context) (drops : ℕ → Bool) (refuses : Update → Bool) wher
 
   then-clean : (first : Bool) (m : frame.Message) (ms : List frame.Message) (octets : List ℕ) (later : List (List Message)) → AreOctets octets → IsFrame m octets
       → AreClean false ms later → (r : Result (List Message) CleanFault) → cleaned ctx drops refuses first m ≡ r → AreClean first (m ∷ ms) (handed_then r later)
-  then-clean first m ms octets later are f rest (Ok ns) e = one-more first m ns ms later (handed-clean ctx drops refuses first m octets ns are f e) rest
+  then-clean first m ms octets later are f rest (Ok ns) e = one-more first m ns ms later (handed-clean refreshes.None ctx drops refuses first m octets ns are f e) rest
   then-clean first m ms octets later are f rest (Err why) e = none-clean first (m ∷ ms)
 
   from-clean : (first : Bool) (ms : List frame.Message) (octets : List ℕ) → AreOctets octets → Row IsFrame ms octets → AreClean first ms (cleaned_from ctx drops refuses first ms)

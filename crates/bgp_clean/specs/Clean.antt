@@ -4,13 +4,15 @@ use Rattle.bgp_frame.specs.declared.kind.Kind.{Kind}
 use Rattle.bgp_frame.specs.Frame as frame
 use Rattle.bgp_open.specs.declared.context.Context.{Context}
 use Rattle.bgp_open.specs.declared.message.Open.{Open}
+use Rattle.bgp_terms.specs.declared.refreshes.Refreshes.{Refreshes}
+use Rattle.bgp_terms.specs.declared.refreshes.Refreshes.TheVariants as refreshes
 use Rattle.bgp_update.specs.declared.update.Update.{Update}
 use Rattle.bgp_update.specs.Prelude.{parts_of}
 use Rattle.bgp_msg.specs.declared.message.Message.{Message}
 use Rattle.bgp_msg.specs.declared.outcome.Outcome.{Outcome}
 use Rattle.bgp_msg.specs.Prelude.{out_of}
 use Rattle.bgp_clean.specs.declared.fault.CleanFault.{CleanFault}
-use Rattle.bgp_clean.specs.Opens.{cleaned_open, lacks_family}
+use Rattle.bgp_clean.specs.Opens.{cleaned_open_with, lacks_family}
 use Rattle.bgp_clean.specs.Updates.{cleaned_update, withdrawal, parts_handed, end_of}
 pub use Rattle.bgp_update.specs.EndOfRib.{family_in}
 
@@ -22,10 +24,10 @@ family_by ctx _ body = None
 abbrev pub ended_family : Context → frame.Message → Option ℕ
 ended_family ctx m = family_by ctx m.kind m.body
 
--- an OPEN is passed on only as the first message, and where it doesn't lose all of its families
-abbrev pub handed_open : Bool → Open → Result (List Message) CleanFault
-handed_open first o =
-    if first then (if lacks_family o then Err CleanFault.NoFamily else Ok (Message.Open (cleaned_open o) ∷ [])) else Err CleanFault.LateOpen
+-- an OPEN is passed on only as the first message, and where it doesn't lose all of its families; it offers at most this ROUTE-REFRESH
+abbrev pub handed_open : Refreshes → Bool → Open → Result (List Message) CleanFault
+handed_open offers first o =
+    if first then (if lacks_family o then Err CleanFault.NoFamily else Ok (Message.Open (cleaned_open_with offers o) ∷ [])) else Err CleanFault.LateOpen
 
 -- where no part remains, a KEEPALIVE replaces the UPDATE: none becomes an End-of-RIB
 abbrev pub or_keepalive : List Update → List Message
@@ -38,18 +40,22 @@ handed_update refuses (Some family) u = Message.Update (end_of family) ∷ []
 handed_update refuses None u = or_keepalive (parts_handed refuses u)
 
 -- what is passed on of a message that is accepted
-abbrev pub handed : (ℕ → Bool) → (Update → Bool) → Bool → Option ℕ → Message → Result (List Message) CleanFault
-handed drops refuses first family (Message.Open o) = handed_open first o
-handed drops refuses first family (Message.Update u) = Ok (handed_update refuses family (cleaned_update drops u))
-handed drops refuses first family (Message.Notification n) = Ok (Message.Notification n ∷ [])
-handed drops refuses first family Message.Keepalive = Ok (Message.Keepalive ∷ [])
+abbrev pub handed : Refreshes → (ℕ → Bool) → (Update → Bool) → Bool → Option ℕ → Message → Result (List Message) CleanFault
+handed offers drops refuses first family (Message.Open o) = handed_open offers first o
+handed offers drops refuses first family (Message.Update u) = Ok (handed_update refuses family (cleaned_update drops u))
+handed offers drops refuses first family (Message.Notification n) = Ok (Message.Notification n ∷ [])
+handed offers drops refuses first family Message.Keepalive = Ok (Message.Keepalive ∷ [])
 
-abbrev pub cleaned_outcome : (ℕ → Bool) → (Update → Bool) → Bool → Option ℕ → Outcome → Result (List Message) CleanFault
-cleaned_outcome drops refuses first family (Outcome.Took said notes) = handed drops refuses first family said
-cleaned_outcome drops refuses first family (Outcome.Withdraw routes notes) = Ok (Message.Update (withdrawal routes) ∷ [])
-cleaned_outcome drops refuses first family (Outcome.Reset n) = Err (CleanFault.Reset n.code n.subcode)
+abbrev pub cleaned_outcome : Refreshes → (ℕ → Bool) → (Update → Bool) → Bool → Option ℕ → Outcome → Result (List Message) CleanFault
+cleaned_outcome offers drops refuses first family (Outcome.Took said notes) = handed offers drops refuses first family said
+cleaned_outcome offers drops refuses first family (Outcome.Withdraw routes notes) = Ok (Message.Update (withdrawal routes) ∷ [])
+cleaned_outcome offers drops refuses first family (Outcome.Reset n) = Err (CleanFault.Reset n.code n.subcode)
+
+-- where an OPEN may offer this ROUTE-REFRESH
+abbrev pub cleaned_with : Refreshes → Context → (ℕ → Bool) → (Update → Bool) → Bool → frame.Message → Result (List Message) CleanFault
+cleaned_with offers ctx drops refuses first m = cleaned_outcome offers drops refuses first (ended_family ctx m) (out_of ctx m)
 
 -- The messages that are passed on for one, the stream's first or not, where unrecognised attributes of the types `drops` are left out, and the
 -- announcements `refuses` are refused; or why the cleaned stream ends before it
 abbrev pub cleaned : Context → (ℕ → Bool) → (Update → Bool) → Bool → frame.Message → Result (List Message) CleanFault
-cleaned ctx drops refuses first m = cleaned_outcome drops refuses first (ended_family ctx m) (out_of ctx m)
+cleaned ctx drops refuses first m = cleaned_with refreshes.None ctx drops refuses first m

@@ -9,31 +9,37 @@ use Rattle.bgp_update.specs.declared.update.Update.{Update}
 use Rattle.bgp_msg.specs.declared.message.Message.{Message}
 use Rattle.bgp_msg.specs.declared.outcome.Outcome.{Outcome}
 use Rattle.bgp_msg.specs.Prelude.{IsTakenAsItself, stream_rules, canonical, written}
-use Rattle.bgp_clean.specs.Clean.{cleaned}
-use Rattle.bgp_clean.specs.Lesson.{Lesson, all_of, lesson}
+use Rattle.bgp_terms.specs.declared.refreshes.Refreshes.{Refreshes}
+use Rattle.bgp_terms.specs.declared.refreshes.Refreshes.TheVariants as refreshes
+use Rattle.bgp_clean.specs.Clean.{cleaned_with}
+use Rattle.bgp_clean.specs.Lesson.{Lesson, all_of, lesson, lesson_with}
 use Rattle.bgp_clean.specs.Stream.{cleaned_each, cleaned_stream, cleaned_octets}
 
 -- each of these messages is unchanged where it is cleaned again: the first of them as the first of its stream, or as one after it
-abbrev pub AreUnchanged : Context → (ℕ → Bool) → (Update → Bool) → Bool → List Message → Type 0
-AreUnchanged ctx drops refuses first [] = Unit {0}
-AreUnchanged ctx drops refuses first (n ∷ ns) = (cleaned ctx drops refuses first (written ctx n) ≡ Ok (n ∷ [])) × AreUnchanged ctx drops refuses false ns
+abbrev pub AreUnchanged : Refreshes → Context → (ℕ → Bool) → (Update → Bool) → Bool → List Message → Type 0
+AreUnchanged offers ctx drops refuses first [] = Unit {0}
+AreUnchanged offers ctx drops refuses first (n ∷ ns) = (cleaned_with offers ctx drops refuses first (written ctx n) ≡ Ok (n ∷ [])) × AreUnchanged offers ctx drops refuses false ns
 
 -- no message is longer than the one that it came from
 abbrev pub AreNoLonger : Context → frame.Message → List Message → Type 0
 AreNoLonger ctx m ns = AllByRecursion (λ n. length (canonical ctx n) ≤ length (octets_of m)) ns
 
 -- what a receiver learns from these messages
-abbrev pub lesson_from : Context → (ℕ → Bool) → (Update → Bool) → List Message → Lesson
-lesson_from ctx drops refuses ns = all_of (map (λ n. lesson ctx drops refuses (written ctx n)) ns)
+abbrev pub lesson_from : Refreshes → Context → (ℕ → Bool) → (Update → Bool) → List Message → Lesson
+lesson_from offers ctx drops refuses ns = all_of (map (λ n. lesson_with offers ctx drops refuses (written ctx n)) ns)
 
--- These are passed on of m: one or more whole messages that are accepted without a note, and unchanged where they are cleaned again; none longer than
+-- These are passed on of m, where an OPEN may offer this ROUTE-REFRESH: one or more whole messages that are accepted without a note, and unchanged where they are cleaned again; none longer than
 -- m; and a receiver learns from them what RFC 7606 has the receiver of m learn
-pub record IsClean (ctx : Context) (drops : ℕ → Bool) (refuses : Update → Bool) (first : Bool) (m : frame.Message) (ns : List Message) : Type 0 where
+pub record IsCleanWith (offers : Refreshes) (ctx : Context) (drops : ℕ → Bool) (refuses : Update → Bool) (first : Bool) (m : frame.Message) (ns : List Message) : Type 0 where
   pub some : 0 < length ns
   pub taken : AllByRecursion (IsTakenAsItself ctx) ns
-  pub again : AreUnchanged ctx drops refuses first ns
+  pub again : AreUnchanged offers ctx drops refuses first ns
   pub no_longer : AreNoLonger ctx m ns
-  pub taught : lesson_from ctx drops refuses ns ≡ lesson ctx drops refuses m
+  pub taught : lesson_from offers ctx drops refuses ns ≡ lesson_with offers ctx drops refuses m
+
+-- where it may offer none
+abbrev pub IsClean : Context → (ℕ → Bool) → (Update → Bool) → Bool → frame.Message → List Message → Type 0
+IsClean ctx drops refuses first m ns = IsCleanWith refreshes.None ctx drops refuses first m ns
 
 -- a message that is accepted, without notes
 abbrev pub outcome_of : Context → Message → ℕ × Outcome
@@ -51,5 +57,5 @@ pub record IsCleanStream (ctx : Context) (drops : ℕ → Bool) (refuses : Updat
   pub taken : Gives (stream_rules ctx) (cleaned_octets ctx drops refuses ms) (map (outcome_of ctx) (cleaned_stream ctx drops refuses ms)) (end.Wait 0)
   pub again : cleaned_each ctx drops refuses (map (written ctx) (cleaned_stream ctx drops refuses ms)) ≡ map (λ n. n ∷ []) (cleaned_stream ctx drops refuses ms)
   pub no_longer : NoLonger ctx (cleaned_each ctx drops refuses ms) ms
-  pub taught : map (lesson_from ctx drops refuses) (cleaned_each ctx drops refuses ms)
+  pub taught : map (lesson_from refreshes.None ctx drops refuses) (cleaned_each ctx drops refuses ms)
       ≡ map (lesson ctx drops refuses) (take (length (cleaned_each ctx drops refuses ms)) ms)

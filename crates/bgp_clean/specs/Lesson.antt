@@ -16,7 +16,9 @@ use Rattle.bgp_update.specs.declared.update.Update.{Update}
 use Rattle.bgp_msg.specs.declared.message.Message.{Message}
 use Rattle.bgp_msg.specs.declared.outcome.Outcome.{Outcome}
 use Rattle.bgp_msg.specs.Prelude.{out_of}
-use Rattle.bgp_clean.specs.Opens.{understood}
+use Rattle.bgp_terms.specs.declared.refreshes.Refreshes.{Refreshes}
+use Rattle.bgp_terms.specs.declared.refreshes.Refreshes.TheVariants as refreshes
+use Rattle.bgp_clean.specs.Opens.{understood_with}
 use Rattle.bgp_clean.specs.Updates.{cleaned_update, has_any, gone_routes, nlri_routes, nlri_part, reached_routes, reached_part}
 use Rattle.bgp_clean.specs.Clean.{ended_family}
 
@@ -48,8 +50,8 @@ pub record Lesson : Type 0 where
 abbrev pub no_lesson : Lesson
 no_lesson = record { peer = None; gone_ip4 = []; gone_ip6 = []; announced = []; ended = None; said = None }
 
-abbrev pub peer_of : Open → Peer
-peer_of o = record { number = peer_as_of o; hold = o.hold; id = o.id; caps = understood o.caps }
+abbrev pub peer_of : Refreshes → Open → Peer
+peer_of offers o = record { number = peer_as_of o; hold = o.hold; id = o.id; caps = understood_with offers o.caps }
 
 -- ---- of routes that are announced
 
@@ -106,18 +108,22 @@ lesson_of refuses u =
     (both (taught_by (has_any (nlri_routes u)) (refuses (nlri_part u)) (announced_nlri u))
     (taught_by (has_any (reached_routes u)) (refuses (reached_part u)) (announced_reached u)))
 
--- of a message that is accepted, which is an End-of-RIB of this family or of none
-abbrev pub lesson_by : (ℕ → Bool) → (Update → Bool) → Option ℕ → Message → Lesson
-lesson_by drops refuses family (Message.Open o) = record no_lesson { peer = Some (peer_of o) }
-lesson_by drops refuses family (Message.Update u) = record (lesson_of refuses (cleaned_update drops u)) { ended = family }
-lesson_by drops refuses family (Message.Notification n) = record no_lesson { said = Some n }
-lesson_by drops refuses family Message.Keepalive = no_lesson
+-- of a message that is accepted, which is an End-of-RIB of this family or of none, by a receiver that understands this ROUTE-REFRESH
+abbrev pub lesson_by : Refreshes → (ℕ → Bool) → (Update → Bool) → Option ℕ → Message → Lesson
+lesson_by offers drops refuses family (Message.Open o) = record no_lesson { peer = Some (peer_of offers o) }
+lesson_by offers drops refuses family (Message.Update u) = record (lesson_of refuses (cleaned_update drops u)) { ended = family }
+lesson_by offers drops refuses family (Message.Notification n) = record no_lesson { said = Some n }
+lesson_by offers drops refuses family Message.Keepalive = no_lesson
 
-abbrev pub lesson_in : (ℕ → Bool) → (Update → Bool) → Option ℕ → Outcome → Lesson
-lesson_in drops refuses family (Outcome.Took said notes) = lesson_by drops refuses family said
-lesson_in drops refuses family (Outcome.Withdraw routes notes) = gone_lesson routes
-lesson_in drops refuses family (Outcome.Reset n) = no_lesson
+abbrev pub lesson_in : Refreshes → (ℕ → Bool) → (Update → Bool) → Option ℕ → Outcome → Lesson
+lesson_in offers drops refuses family (Outcome.Took said notes) = lesson_by offers drops refuses family said
+lesson_in offers drops refuses family (Outcome.Withdraw routes notes) = gone_lesson routes
+lesson_in offers drops refuses family (Outcome.Reset n) = no_lesson
 
 -- what a receiver learns from a message, where unrecognised attributes of these types are ignored, and routes that are refused are withdrawn
+abbrev pub lesson_with : Refreshes → Context → (ℕ → Bool) → (Update → Bool) → frame.Message → Lesson
+lesson_with offers ctx drops refuses m = lesson_in offers drops refuses (ended_family ctx m) (out_of ctx m)
+
+-- by a receiver that understands no ROUTE-REFRESH
 abbrev pub lesson : Context → (ℕ → Bool) → (Update → Bool) → frame.Message → Lesson
-lesson ctx drops refuses m = lesson_in drops refuses (ended_family ctx m) (out_of ctx m)
+lesson ctx drops refuses m = lesson_with refreshes.None ctx drops refuses m

@@ -5,6 +5,7 @@ pub mod NextHops
 pub mod Limits
 pub mod Clean
 pub mod Cleaned
+pub mod Wide
 pub mod Lesson
 pub mod Stream
 pub mod Laws

@@ -11,9 +11,11 @@ mod opens;
 mod part;
 mod updates;
 mod whole;
+mod wide;
 
 pub use cleaned::Cleaned;
-pub use cleaning::clean;
+pub use cleaning::{clean, clean_with};
 pub use fault::CleanFault;
 pub use limits::Limits;
 pub use opens::count_understood;
+pub use wide::{clean_in, clean_refresh};

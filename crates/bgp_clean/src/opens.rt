@@ -5,7 +5,9 @@ ghost use Rattle.bgp_msg.specs.declared.message.Message.TheVariants as message;
 ghost use Rattle.bgp_msg.specs.Prelude.{canonical};
 ghost use Rattle.bgp_numbers.specs.declared.afi.TheConstants.{IPV4, IPV6};
 ghost use Rattle.bgp_open.specs.Prelude.{capabilities_left, capability_value, open_value, is_unicast, capability_octets, is_bad, row_octets};
-ghost use Rattle.bgp_clean.specs.Prelude.{handed_open, IsCleaned, none_seen, goes_on, seen_behind, understood, cleaned_open, is_multi, lacks_family, seen_value};
+ghost use Rattle.bgp_clean.specs.Prelude.{handed_open, IsCleaned, goes_on, seen_behind, seen_for, understood, understood_with, cleaned_open_with, is_multi, lacks_family, seen_value};
+ghost use Rattle.bgp_terms.specs.Prelude.{offers_plain};
+ghost use Rattle.bgp_open.specs.declared.capability.Capability.TheVariants.{Other};
 
 use crate::cleaned::Cleaned;
 use crate::fault::CleanFault;
@@ -14,10 +16,11 @@ use arrayvec::ArrayVec;
 use bgp_frame::Kind;
 use bgp_numbers::{afi, capability, safi};
 use bgp_open::{CapabilityIter, CapabilityView, Context, OpenView, open_body};
+use bgp_terms::Refreshes;
 use bgp_wire::Output;
 use std::alloc::AllocError;
 
-/// Which of the capabilities that are understood occurred before.
+/// Which capabilities aren't passed on any more.
 #[derive(Clone, Copy)]
 struct Seen {
     /// IPv4 unicast (RFC 4760, section 8).
@@ -26,17 +29,30 @@ struct Seen {
     ip6: bool,
     /// 4-octet AS numbers (RFC 6793, section 3).
     as4: bool,
+    /// ROUTE-REFRESH (RFC 2918, section 2).
+    refresh: bool,
+    /// Enhanced ROUTE-REFRESH (RFC 7313, section 3.1).
+    enhanced: bool,
+}
+
+/// Whether a capability of this code and value is one that has no value, and the wanted one.
+fn is_plain(wanted: u8, code: u8, value: &[u8]) -> bool
+    ensures { result ≡ offers_plain wanted (Other code value.now) }
+{
+    code == wanted && value.is_empty()
 }
 
 impl Seen {
-    /// None of them.
-    fn none() -> Seen
-        ensures { seen_value result ≡ none_seen }
+    /// Before the first capability of an OPEN that may offer this ROUTE-REFRESH.
+    fn before(offers: Refreshes) -> Seen
+        ensures { seen_value result ≡ seen_for offers }
     {
         Seen {
             ip4: false,
             ip6: false,
             as4: false,
+            refresh: matches!(offers, Refreshes::None),
+            enhanced: !matches!(offers, Refreshes::Enhanced),
         }
     }
 
@@ -47,8 +63,13 @@ impl Seen {
         match capability {
             CapabilityView::Multi(afi::IPV4, safi::UNICAST) => !self.ip4,
             CapabilityView::Multi(afi::IPV6, safi::UNICAST) => !self.ip6,
+            CapabilityView::Multi(_, _) => false,
             CapabilityView::As4(_) => !self.as4,
-            _ => false,
+            CapabilityView::Other(code, value) => {
+                let refresh = is_plain(capability::ROUTE_REFRESH, *code, value);
+                let enhanced = is_plain(capability::ENHANCED_ROUTE_REFRESH, *code, value);
+                (!self.refresh && refresh) || (!self.enhanced && enhanced)
+            }
         }
     }
 
@@ -59,8 +80,14 @@ impl Seen {
         match capability {
             CapabilityView::Multi(afi::IPV4, safi::UNICAST) => self.ip4 = true,
             CapabilityView::Multi(afi::IPV6, safi::UNICAST) => self.ip6 = true,
+            CapabilityView::Multi(_, _) => {}
             CapabilityView::As4(_) => self.as4 = true,
-            _ => {}
+            CapabilityView::Other(code, value) => {
+                let refresh = is_plain(capability::ROUTE_REFRESH, *code, value);
+                let enhanced = is_plain(capability::ENHANCED_ROUTE_REFRESH, *code, value);
+                self.refresh = self.refresh || refresh;
+                self.enhanced = self.enhanced || enhanced;
+            }
         }
     }
 }
@@ -94,12 +121,12 @@ fn put_capability(capability: &CapabilityView<'_>, row: &mut ArrayVec<u8, 253>)
 }
 
 /// The octets of the capabilities that are understood, each of a kind once.
-fn understood(capabilities: CapabilityIter<'_>) -> ArrayVec<u8, 253>
-    requires { length (row_octets (understood (capabilities_left capabilities))) ≤ 253 }
-    ensures { result.items ≡ row_octets (understood (capabilities_left capabilities.entry)) }
+fn understood(offers: Refreshes, capabilities: CapabilityIter<'_>) -> ArrayVec<u8, 253>
+    requires { length (row_octets (understood_with offers (capabilities_left capabilities))) ≤ 253 }
+    ensures { result.items ≡ row_octets (understood_with offers (capabilities_left capabilities.entry)) }
 {
     let mut row = ArrayVec::new();
-    let mut seen = Seen::none();
+    let mut seen = Seen::before(offers);
     let mut left = capabilities;
     'row: while let Some(capability) = left.next() {
         if seen.goes_on(&capability) {
@@ -110,12 +137,12 @@ fn understood(capabilities: CapabilityIter<'_>) -> ArrayVec<u8, 253>
     row
 }
 
-/// The number of capabilities of an OPEN that are passed on: those that are understood, each of a kind once.
+/// The number of capabilities of an OPEN that are passed on where it is to offer no ROUTE-REFRESH: those that are understood, each of a kind once.
 pub fn count_understood(view: &OpenView<'_>) -> usize
     ensures { result ≡ length (understood (open_value view.now).caps) }
 {
     let mut count = 0;
-    let mut seen = Seen::none();
+    let mut seen = Seen::before(Refreshes::None);
     let mut left = view.capabilities();
     'row: while let Some(capability) = left.next() {
         if seen.goes_on(&capability) {
@@ -161,29 +188,35 @@ fn lacks_family(view: &OpenView<'_>) -> bool
 }
 
 /// Appends a whole OPEN, with only the capabilities that are understood.
-fn put_open<O: Output>(ctx: &Context, view: &OpenView<'_>, out: &mut O) -> Result<(), AllocError>
-    requires { is_bad (cleaned_open (open_value view.now)) ≡ false }
-    ensures ok { OnOk result (O.written out.new ≡ O.written out.old ++ canonical ctx.now (message.Open (cleaned_open (open_value view.now)))) }
+fn put_open<O: Output>(
+    offers: Refreshes,
+    ctx: &Context,
+    view: &OpenView<'_>,
+    out: &mut O,
+) -> Result<(), AllocError>
+    requires { is_bad (cleaned_open_with offers (open_value view.now)) ≡ false }
+    ensures ok { OnOk result (O.written out.new ≡ O.written out.old ++ canonical ctx.now (message.Open (cleaned_open_with offers (open_value view.now)))) }
     ensures err { OnErr result (O.written out.new ≡ O.written out.old) }
     ensures full { OnErr result (O.room < length (O.written out.old) + 4096) }
 {
-    let row = understood(view.capabilities());
+    let row = understood(offers, view.capabilities());
     let body = open_body(view.as_field(), view.hold(), view.id(), &row);
     put_whole(ctx, &Body::Same(Kind::Open, body.as_slice()), out)
 }
 
-/// Appends what is passed on of an OPEN, or says why the stream ends before it.
+/// Appends what is passed on of an OPEN, which offers at most this ROUTE-REFRESH, or says why the stream ends before it.
 ///
 /// # Errors
 /// `AllocError` where there was no room; nothing is appended then.
 pub(crate) fn clean_open<O: Output>(
+    offers: Refreshes,
     ctx: &Context,
     first: bool,
     view: OpenView<'_>,
     out: &mut O,
 ) -> Result<Cleaned, AllocError>
     requires { is_bad (open_value view) ≡ false }
-    ensures value { IfOk result (λ c. IsCleaned ctx.now (handed_open first (open_value view.entry)) (O.written out.old) (O.written out.new) c) }
+    ensures value { IfOk result (λ c. IsCleaned ctx.now (handed_open offers first (open_value view.entry)) (O.written out.old) (O.written out.new) c) }
     ensures err { OnErr result (O.written out.new ≡ O.written out.old) }
     ensures full { OnErr result (O.room < length (O.written out.old) + 4096) }
 {
@@ -193,6 +226,6 @@ pub(crate) fn clean_open<O: Output>(
     if lacks_family(&view) {
         return Ok(Cleaned::Ends(CleanFault::NoFamily));
     }
-    put_open(ctx, &view, out)?;
+    put_open(offers, ctx, &view, out)?;
     Ok(Cleaned::HandedOn)
 }

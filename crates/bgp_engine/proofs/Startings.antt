@@ -21,10 +21,10 @@ use Rattle.bgp_frame.specs.declared.kind.WideKind.{WideKind}
 use Rattle.bgp_terms.specs.declared.refreshes.Refreshes.{Refreshes}
 use Rattle.bgp_terms.specs.declared.refreshes.Refreshes.TheVariants as refreshes
 use Rattle.bgp_engine.specs.Refreshed.{Refreshed}
-use Rattle.bgp_engine.specs.Clean.{start_in, starts_by, starts_in, starts_under}
+use Rattle.bgp_engine.specs.Clean.{clean_rules, first_line, start_in, starts_by, starts_in, starts_under}
 use Rattle.bgp_engine.specs.First.{start_by}
 use Rattle.bgp_engine.specs.Wide.{wide_rules}
-use Rattle.bgp_engine.specs.steps.Cleaning.{clean_plan, page_rules}
+use Rattle.bgp_engine.specs.steps.Cleaning.{clean_plan, offers_or, page_rules}
 use Rattle.bgp_engine.specs.steps.Extends.{Extends, wide_extends}
 use Rattle.bgp_engine.specs.steps.Pages.{context_or}
 use Rattle.bgp_engine.specs.steps.Starting.{WideStart}
@@ -432,20 +432,21 @@ from_plain {Outcome = Outcome} a b same types s r q = by_first (first_message s)
 -- ---- the page of `clean` reads its streams by the rules of `clean`
 
 abbrev clean_page_plan : CleanPage → Option Agreed → Plan Kind (Result (List Said) CleanFault)
-clean_page_plan page terms = clean_plan (context_or page.ctx terms) (has_octet page.drops) page.limits
+clean_page_plan page terms = clean_plan (offers_or page.offers terms) (context_or page.ctx terms) (has_octet page.drops) page.limits
 
-pub clean_same : (page : CleanPage) (s : List ℕ) (r : Report) → ReportedFrom (starts_of (λ _. true) page_rules clean_page_plan refreshes.None None page) s r → ReportedFrom (starts_in page.ctx (has_octet page.drops) page.limits) s r
-clean_same page s r q = from_plain _ (λ first. start_in (has_octet page.drops) page.limits first page.ctx) same (λ o. refl) s r q
+pub clean_same : (page : CleanPage) → page.offers ≡ refreshes.None → (s : List ℕ) (r : Report) → ReportedFrom (starts_of (λ _. true) page_rules clean_page_plan refreshes.None None page) s r → ReportedFrom (starts_in page.ctx (has_octet page.drops) page.limits) s r
+clean_same page bare s r q = from_plain _ (λ first. start_in (has_octet page.drops) page.limits first page.ctx) same (λ o. refl) s r q
   where
     same : (o : Option Message) → starts_of (λ _. true) page_rules clean_page_plan refreshes.None None page o ≡ Ok (unoffered (start_in (has_octet page.drops) page.limits o page.ctx))
     same None = refl
-    same (Some m) = refl
+    same (Some m) =
+        ap (λ (offers : Refreshes). Ok (unoffered (record { rules = clean_rules page.ctx (has_octet page.drops) page.limits; first = first_line offers page.ctx (has_octet page.drops) page.limits m m.kind }))) bare
 
 -- by terms
-pub clean_under : (terms : Agreed) (page : CleanPage) → page.ctx ≡ terms.context → (o : Option Message)
+pub clean_under : (terms : Agreed) (page : CleanPage) → page.offers ≡ terms.refresh → page.ctx ≡ terms.context → (o : Option Message)
     → starts_of (λ _. true) page_rules clean_page_plan terms.refresh None page o ≡ starts_under terms (has_octet page.drops) page.limits o
-clean_under terms page context None = rw (sym context) refl
-clean_under terms page context (Some m) = rw (sym context) refl
+clean_under terms page offers context None = rw (sym context) refl
+clean_under terms page offers context (Some m) = rw (sym context, sym offers) refl
 
 pub clean_by : (accepted : Refreshes) (theirs : List ℕ) (page : CleanPage) (o : Option Message)
     → starts_of (λ _. true) page_rules clean_page_plan accepted (Some theirs) page o ≡ starts_by theirs (has_octet page.drops) page.limits o

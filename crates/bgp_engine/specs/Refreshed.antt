@@ -1,35 +1,10 @@
 -- What is read and written of a ROUTE-REFRESH (RFC 2918; RFC 7313).
-use Rattle.std.specs.Prelude.{ℕ, Bool, true, false, List, [], Option, Some, Result, Ok, Err, if◌then◌else◌}
-use Rattle.bgp_frame.specs.declared.grammar.WideGrammar.{WideGrammar}
-use Rattle.bgp_frame.specs.declared.notification.Notification.{Notification}
-use Rattle.bgp_terms.specs.declared.refreshes.Refreshes.TheVariants as refreshes
-use Rattle.bgp_refresh.specs.declared.fault.RefreshFault.{RefreshFault}
+use Rattle.std.specs.Prelude.{ℕ, Bool, true, false, List, [], Option, Some, Ok, Err, if◌then◌else◌}
 use Rattle.bgp_refresh.specs.declared.mark.RefreshMark.{RefreshMark}
 use Rattle.bgp_refresh.specs.declared.mark.RefreshMark.TheVariants as mark
-use Rattle.bgp_engine.specs.Below.{Outcome, Refresh, Refreshes, Span, refresh_notification, refresh_of}
+use Rattle.bgp_engine.specs.Below.{Outcome, Refresh, Span}
 use Rattle.bgp_msg.specs.declared.outcome.Outcome.TheVariants as outcome
-
--- a ROUTE-REFRESH, or the NOTIFICATION that answers one that is refused
-abbrev pub Refreshed : Type 0
-Refreshed = Result Refresh Notification
-
-abbrev pub answered : List ℕ → Result Refresh RefreshFault → Refreshed
-answered body (Ok r) = Ok r
-answered body (Err fault) = Err (refresh_notification fault body)
-
--- that of a body, by what the reader accepts
-abbrev pub refreshed : Refreshes → List ℕ → Refreshed
-refreshed accepted body = answered body (refresh_of accepted body)
-
--- the reader offers it
-abbrev pub is_offered : Refreshes → Bool
-is_offered refreshes.None = false
-is_offered refreshes.Plain = true
-is_offered refreshes.Enhanced = true
-
--- messages of at most 4096 octets
-abbrev pub grammar_of : Refreshes → WideGrammar
-grammar_of accepted = record { refresh = is_offered accepted; long = false }
+pub use Rattle.bgp_wide.specs.Prelude.{Refreshed, grammar_of, is_offered, refreshed}
 
 -- the subtype has no meaning, so that the message has no effect
 abbrev pub is_ignored_mark : RefreshMark → Bool

@@ -15,7 +15,7 @@ use crate::opens::UNKNOWN;
 use crate::page::Page;
 use crate::starting::start_stream;
 use crate::tally::Tally;
-use bgp_clean::{CleanFault, Cleaned, Limits, clean};
+use bgp_clean::{CleanFault, Cleaned, Limits, clean, clean_refresh, clean_with};
 use bgp_frame::{End, Frame, HeadFault, Kind, Notification};
 use bgp_open::Context;
 use bgp_refresh::RefreshView;
@@ -27,6 +27,8 @@ use std::io::{Read, Write};
 /// The octets that are passed on.
 #[derive(Drop)]
 pub(crate) struct CleanPage {
+    /// The ROUTE-REFRESH that an OPEN may offer.
+    pub(crate) offers: Refreshes,
     pub(crate) ctx: Context,
     /// The unrecognised types that are left out.
     pub(crate) drops: OctetSet,
@@ -39,13 +41,21 @@ pub(crate) struct CleanPage {
 
 impl CleanPage {
     /// An empty page.
-    fn new(alloc: Global, ctx: Context, drops: &OctetSet, limits: &Limits) -> CleanPage
+    fn new(
+        alloc: Global,
+        offers: Refreshes,
+        ctx: Context,
+        drops: &OctetSet,
+        limits: &Limits,
+    ) -> CleanPage
+        ensures offers { result.offers ≡ offers }
         ensures context { result.ctx ≡ ctx }
         ensures drops { result.drops ≡ drops.now }
         ensures limits { result.limits ≡ limits.now }
         ensures empty { result.octets.items ≡ [] }
     {
         CleanPage {
+            offers,
             ctx,
             drops: *drops,
             limits: *limits,
@@ -59,9 +69,10 @@ impl CleanPage {
         requires length { IsLength frame.kind (19 + length frame.body.now) }
         requires kind { frame.kind ≡ kind.Open }
         ensures { IfOk result (λ taken. TakesFirst taken
-            (clean_plan self.old.ctx (has_octet self.old.drops) self.old.limits) (page_rules self.new) (message_in frame.entry) self.old.octets.items self.new.octets.items) }
+            (clean_plan self.old.offers self.old.ctx (has_octet self.old.drops) self.old.limits) (page_rules self.new) (message_in frame.entry) self.old.octets.items self.new.octets.items) }
     {
-        match clean(
+        match clean_with(
+            self.offers,
             &self.ctx,
             &self.drops,
             &self.limits,
@@ -88,7 +99,7 @@ impl Page for CleanPage {
     ghost use Rattle.std.specs.Prelude.{refl};
     ghost use Rattle.bgp_engine.specs.Below.{true, List, Result, has_octet, CleanFault};
     ghost use Rattle.bgp_msg.specs.declared.message.Message.{Message};
-    ghost use Rattle.bgp_engine.specs.steps.Cleaning.{clean_plan, page_rules};
+    ghost use Rattle.bgp_engine.specs.steps.Cleaning.{clean_plan, offers_or, page_rules};
     ghost use Rattle.bgp_engine.specs.steps.Pages.{context_or};
 
     ghost Outcome = { Result (List Message) CleanFault };
@@ -99,11 +110,12 @@ impl Page for CleanPage {
 
     ghost fits = { λ _. true };
 
-    ghost plan = { λ page terms. clean_plan (context_or page.ctx terms) (has_octet page.drops) page.limits };
+    ghost plan = { λ page terms. clean_plan (offers_or page.offers terms) (context_or page.ctx terms) (has_octet page.drops) page.limits };
 
     ghost plainly = { λ _. refl };
 
     fn agree(&mut self, terms: &WideTerms) -> bool {
+        self.offers = terms.refresh;
         self.ctx = terms.context;
         true
     }
@@ -146,9 +158,9 @@ impl Page for CleanPage {
         _place: u64,
         _len: u16,
         _body: &[u8],
-        _refresh: &RefreshView<'_>,
+        refresh: &RefreshView<'_>,
     ) -> Result<(), AllocError> {
-        Ok(())
+        clean_refresh(&self.ctx, refresh, &mut self.octets)
     }
 
     fn refuse(
@@ -239,7 +251,7 @@ pub fn clean_within<R: Read, W: Write>(
 ) -> Result<Tally, ToolFault>
     ensures { Answers (CleanedIn ctx.now (has_octet drops.now) limits.now) hex (io R.remaining input.old input.new W.contents output.old output.new) (without_words result) }
 {
-    let page = CleanPage::new(alloc, *ctx, drops, limits);
+    let page = CleanPage::new(alloc, Refreshes::None, *ctx, drops, limits);
     let (answer, starting) = start_stream(
         alloc,
         turns,
@@ -253,7 +265,9 @@ pub fn clean_within<R: Read, W: Write>(
     with_words(answer, starting.walk.page.why)
 }
 
-/// [`clean_stream`] by what was negotiated: ROUTE-REFRESH is read where the reader offers it, and isn't passed on.
+/// [`clean_stream`] by what was negotiated: ROUTE-REFRESH is read where the reader offers it, and passed on in 23 octets
+/// where both offer its family and what it is for is defined; a KEEPALIVE replaces any other. An OPEN that is passed on
+/// keeps as much of its offer of ROUTE-REFRESH.
 ///
 /// # Errors
 /// As `clean_stream`.
@@ -268,7 +282,7 @@ pub fn clean_under<R: Read, W: Write>(
 ) -> Result<Tally, ToolFault>
     ensures { Answers (CleanedUnder (wide_terms terms.now) (has_octet drops.now) limits.now) hex (io R.remaining input.old input.new W.contents output.old output.new) (without_words result) }
 {
-    let page = CleanPage::new(alloc, terms.context, drops, limits);
+    let page = CleanPage::new(alloc, terms.refresh, terms.context, drops, limits);
     let (answer, starting) = start_stream(
         alloc,
         u32::MAX,
@@ -318,7 +332,7 @@ pub fn clean_by_opens_within<R: Read, W: Write>(
 ) -> Result<Tally, ToolFault>
     ensures { Answers (CleanedBy theirs.now (has_octet drops.now) limits.now) hex (io R.remaining input.old input.new W.contents output.old output.new) (without_words result) }
 {
-    let page = CleanPage::new(alloc, UNKNOWN, drops, limits);
+    let page = CleanPage::new(alloc, Refreshes::None, UNKNOWN, drops, limits);
     let (answer, starting) = start_stream(
         alloc,
         turns,

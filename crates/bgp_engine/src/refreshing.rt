@@ -2,14 +2,14 @@
 
 ghost use Rattle.std.specs.Prelude.{◌≡◌, ◌+◌, ◌≤◌, ◌++◌, length, IfOk};
 ghost use Rattle.bgp_engine.specs.Below.{IsLengthIn, message_in, notification_of_view, refresh_header, wide_types};
-ghost use Rattle.bgp_engine.specs.Refreshed.{grammar_of, is_offered, refresh_span, refreshed};
+ghost use Rattle.bgp_engine.specs.Refreshed.{grammar_of, refresh_span, refreshed};
 ghost use Rattle.bgp_engine.specs.Wide.{refresh_class, wide_rules};
 ghost use Rattle.bgp_engine.specs.steps.Pages.{Writes};
 
 use crate::class::Class;
 use crate::page::Page;
 use bgp_fields::Span;
-use bgp_frame::{Frame, Notification, NotificationView, WideGrammar, WideKind};
+use bgp_frame::{Frame, Notification, NotificationView, WideKind};
 use bgp_refresh::view_refresh;
 use bgp_terms::Refreshes;
 use std::alloc::AllocError;
@@ -29,26 +29,6 @@ pub(crate) fn view_of(why: &Notification) -> NotificationView<'_>
         code: why.code,
         subcode: why.subcode,
         info: &why.info,
-    }
-}
-
-// Whether the reader offers ROUTE-REFRESH.
-fn is_offered(refreshes: Refreshes) -> bool
-    ensures { result ≡ is_offered refreshes }
-{
-    match refreshes {
-        Refreshes::None => false,
-        Refreshes::Plain | Refreshes::Enhanced => true,
-    }
-}
-
-/// The types of message that a reader accepts, of at most 4096 octets.
-pub(crate) fn grammar_of(refreshes: Refreshes) -> WideGrammar
-    ensures { result ≡ grammar_of refreshes }
-{
-    WideGrammar {
-        refresh: is_offered(refreshes),
-        long: false,
     }
 }
 

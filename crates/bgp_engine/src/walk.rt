@@ -11,11 +11,12 @@ use crate::class::Class;
 use crate::engine::Engine;
 use crate::fault::ToolFault;
 use crate::page::Page;
-use crate::refreshing::{grammar_of, put_message};
+use crate::refreshing::put_message;
 use crate::running::run;
 use crate::tally::Tally;
 use bgp_frame::{End, FramerOf, Pull, WideGrammar};
 use bgp_terms::Refreshes;
+use bgp_wide::grammar_of;
 use std::alloc::AllocError;
 use std::io::{Read, Write};
 

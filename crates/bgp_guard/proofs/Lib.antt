@@ -9,3 +9,4 @@ pub mod Passed
 pub mod Ranges
 pub mod Reasons
 pub mod Sights
+pub mod Types

@@ -1,13 +1,13 @@
 -- Whatever happens, the invariant of both directions is kept.
 use Rattle.bgp_guard.proofs.Prelude.{◌≡◌, ℕ, suc, Bool, true, false, List, [], ◌∷◌, ◌++◌, Option, Some, None, refl, sym, ◌∙◌, AllByRecursion, and_parts, ◌&&◌, not, nat_lt}
-use Rattle.bgp_guard.proofs.Prelude.{if◌then◌else◌, true≢false, append-nil, IsHeld_nil, Rules, Side, Stage, expired, late_answer, notice, rejected, shutdown, Half, runs, agreed, Notification, Said}
+use Rattle.bgp_guard.proofs.Prelude.{if◌then◌else◌, true≢false, append-nil, IsHeld_nil, Rules, Side, Stage, expired, late_answer, notice, rejected, shutdown, Half, runs, agreed, Notification, Spoken}
 use Rattle.bgp_guard.proofs.Prelude.{aged, closed_if, cut_if, farewell, is_due, keeps_alive, kept_if, stopped_if, is_waiting, late, ticked_in, waited, IsHandedOver, HandsOn, HandsOver, IsOctetIn, Event, Stood, Unreached}
 use Rattle.bgp_guard.proofs.Prelude.{Octet, Closed, Sent, Stalled, Stopped, Ticked, Life, Seen, Trail, born, by_event, happens, life, life_behind, life_from, sent_seen}
 use Rattle.bgp_guard.proofs.Prelude.{OPEN_SECONDS, nothing_waits, rules_of}
 use Rattle.bgp_guard.proofs.Hears.{Goes, Lane, octet_goes}
 use Rattle.bgp_guard.proofs.Lanes.{Alive, alive_all, alive_ends, alive_own, alive_sent, over_lost, over_sent}
-use Rattle.bgp_frame.specs.Kind.{plain}
-use Rattle.bgp_frame.specs.steps.AreTypes.{plain-are}
+use Rattle.bgp_guard.specs.Guard.{types}
+use Rattle.bgp_guard.proofs.Types.{types-are}
 
 module _ (rules theirs : Rules) (silent others : Bool) (this other : Half) (t o : Trail) where
   abbrev seen : Stage → Seen
@@ -85,7 +85,7 @@ waited_holds : (rules : Rules) (n : ℕ) (outer inner : Half) (t o : Trail) (b :
     → Holds (record { guard = record { rules = rules; stage = Stage.Runs n; outer = outer; inner = inner }; outer = t; inner = o })
     → Holds (record { guard = waited n b (record { rules = rules; stage = Stage.Runs n; outer = outer; inner = inner }); outer = t; inner = o })
 waited_holds rules n outer inner t o false h =
-    let hold = (agreed outer.peer inner.peer).hold in
+    let hold = (agreed outer.peer inner.peer).context.hold in
     kept_holds rules n outer inner t o (keeps_alive hold (record { rules = rules; stage = Stage.Runs n; outer = outer; inner = inner })) hold h
 waited_holds rules n outer inner t o true h = by (nat_lt (suc n) OPEN_SECONDS)
   where
@@ -105,7 +105,7 @@ ticked_holds rules (Stage.Runs n) outer inner t o h =
 ticked_holds rules (Stage.Ends n) outer inner t o h = record { this = h.this; other = h.other }
 
 -- the owner ends the session
-dismissed_lane : (rules : Rules) (silent : Bool) (held : List ℕ) (kept others : Option Said) (came given way : List ℕ) (b : Bool) → Alive rules silent held kept others came given way
+dismissed_lane : (rules : Rules) (silent : Bool) (held : List ℕ) (kept others : Option Spoken) (came given way : List ℕ) (b : Bool) → Alive rules silent held kept others came given way
     → IsHandedOver rules silent (agreed kept others) kept came given (farewell b way)
 dismissed_lane rules silent held kept others came given way true a =
     alive_ends rules silent held kept others came given way a [] came (way ++ notice shutdown) [] (Some shutdown) (sym (append-nil came)) (append-nil (way ++ notice shutdown))
@@ -161,8 +161,8 @@ born_lane rules silent = record {
   row = [];
   whole = refl;
   frames = refl;
-  can_hold = IsHeld_nil plain plain-are;
-  waits = nothing_waits plain plain-are;
+  can_hold = IsHeld_nil types types-are;
+  waits = nothing_waits types types-are;
   opened = refl;
   hands = λ ctx fits. record { said = []; hands = refl; handed = []; between = refl; is = refl };
   none = tt;

@@ -1,23 +1,24 @@
 -- Why a guard has ended.
 use Rattle.bgp_guard.proofs.Prelude.{◌≡◌, ◌≤◌, ℕ, suc, Bool, true, false, List, [], ◌∷◌, ◌++◌, Option, Some, None, Result, Ok, Err, refl, sym, ap, subst, ◌∙◌}
 use Rattle.bgp_guard.proofs.Prelude.{append_assoc, and_parts, ltb-false, not-true, ◌&&◌, ◌||◌, not, nat_lt, is_some, if◌then◌else◌, true≢false, HeadFault}
-use Rattle.bgp_guard.proofs.Prelude.{Kind, content_of, Message, Rules, Stage, Answers, Guarding, Sight, listens_in, runs, comes_of, rules_of, done, heard_as, holding}
+use Rattle.bgp_guard.proofs.Prelude.{Kind, WideKind, content_of_in, Framed, WideMessage, types, Rules, Stage, Answers, Guarding, Sight, listens_in, runs, comes_of, rules_of, done, heard_as, holding}
 use Rattle.bgp_guard.proofs.Prelude.{octet_by, agreed, closed_if, cut_if, keeps_alive, kept_if, rejected, is_waiting, ticked_in, waited, late, Notification, EndsBy, EndsContent, EndsHearing, HasReason}
 use Rattle.bgp_guard.proofs.Prelude.{IsLast, IsAnsweredOr, RunsOrHasReason, Event, Stood, Unreached, Octet, Closed, Sent, Stalled, Stopped, Ticked, Life, born, happens, life}
 use Rattle.bgp_guard.proofs.Prelude.{life_behind, life_from, Side, OPEN_SECONDS}
-use Rattle.bgp_frame.specs.Frame as frame
+use Rattle.bgp_frame.specs.declared.kind.WideKind.TheVariants as wide
 
 -- ---- octets
 
-kind_ends : (silent : Bool) (s : Sight) (k : Kind) (m : frame.Message) (r : Result (List Message) Answers) → runs s.stage ≡ true → k ≡ m.kind → runs (done silent s k r).stage ≡ false
+kind_ends : (silent : Bool) (s : Sight) (k : WideKind) (m : Framed) (r : Result (List WideMessage) Answers) → runs s.stage ≡ true → k ≡ m.kind → runs (done silent s k r).stage ≡ false
     → IsAnsweredOr r m
 kind_ends silent s k m (Err answers) ran same ends = tt
-kind_ends silent s Kind.Notification m (Ok n) ran same ends = sym same
-kind_ends silent s Kind.Open m (Ok n) ran same ends = absurd (true≢false (sym ran ∙ ends))
-kind_ends silent s Kind.Update m (Ok n) ran same ends = absurd (true≢false (sym ran ∙ ends))
-kind_ends silent s Kind.Keepalive m (Ok n) ran same ends = absurd (true≢false (sym ran ∙ ends))
+kind_ends silent s (wide.Base Kind.Notification) m (Ok n) ran same ends = sym same
+kind_ends silent s (wide.Base Kind.Open) m (Ok n) ran same ends = absurd (true≢false (sym ran ∙ ends))
+kind_ends silent s (wide.Base Kind.Update) m (Ok n) ran same ends = absurd (true≢false (sym ran ∙ ends))
+kind_ends silent s (wide.Base Kind.Keepalive) m (Ok n) ran same ends = absurd (true≢false (sym ran ∙ ends))
+kind_ends silent s wide.Refresh m (Ok n) ran same ends = absurd (true≢false (sym ran ∙ ends))
 
-content_ends : (rules : Rules) (silent : Bool) (s : Sight) (held : List ℕ) (c : Option (Result frame.Message HeadFault)) → runs s.stage ≡ true
+content_ends : (rules : Rules) (silent : Bool) (s : Sight) (held : List ℕ) (c : Option (Result Framed HeadFault)) → runs s.stage ≡ true
     → runs (heard_as rules silent (holding s held) c).stage ≡ false → EndsContent rules s c
 content_ends rules silent s held None ran ends = absurd (true≢false (sym ran ∙ ends))
 content_ends rules silent s held (Some (Ok m)) ran ends = kind_ends silent (holding s []) m.kind m (comes_of rules (holding s []) m) ran refl ends
@@ -26,7 +27,7 @@ content_ends rules silent s held (Some (Err fault)) ran ends = tt
 octet_ends : (rules : Rules) (silent : Bool) (s : Sight) (octet : ℕ) (b : Bool) → listens_in s ≡ b → runs s.stage ≡ true → runs (octet_by b rules silent s octet).stage ≡ false
     → EndsHearing rules s octet
 octet_ends rules silent s octet true up ran ends =
-    (up, content_ends rules silent s (s.this.held ++ octet ∷ []) (content_of (s.this.held ++ octet ∷ [])) ran ends)
+    (up, content_ends rules silent s (s.this.held ++ octet ∷ []) (content_of_in types (s.this.held ++ octet ∷ [])) ran ends)
 octet_ends rules silent s octet false up ran ends = absurd (true≢false (sym ran ∙ ends))
 
 -- ---- other events
@@ -50,7 +51,7 @@ waited_ends g n true is ran ends = (
   not-true (is_some g.outer.peer && is_some g.inner.peer) (and_parts (g.outer.stands || g.inner.stands) (not (is_some g.outer.peer && is_some g.inner.peer)) is).1,
 )
 waited_ends g n false is ran ends =
-    let hold = (agreed g.outer.peer g.inner.peer).hold in
+    let hold = (agreed g.outer.peer g.inner.peer).context.hold in
     absurd (true≢false (sym ran ∙ sym (kept_runs (keeps_alive hold g) hold) ∙ ends))
   where
     kept_runs : (b : Bool) (hold : ℕ) → runs (kept_if b hold g).stage ≡ runs g.stage

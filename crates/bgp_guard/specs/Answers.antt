@@ -1,14 +1,15 @@
 -- The NOTIFICATIONs that the guard sends itself (RFC 4271, section 6; RFC 4486; RFC 6608).
 use Rattle.std.specs.Prelude.{ℕ, List, [], ◌∷◌, ◌++◌, Option, None, Some}
-use Rattle.bgp_numbers.specs.declared.error.TheConstants.{HOLD_TIMER_EXPIRED, FINITE_STATE_MACHINE, CEASE, UNSPECIFIC, ADMINISTRATIVE_RESET, ADMINISTRATIVE_SHUTDOWN, CONNECTION_REJECTED, OPEN_MESSAGE, BAD_PEER_AS}
+use Rattle.bgp_numbers.specs.declared.error.TheConstants.{MESSAGE_HEADER, BAD_MESSAGE_TYPE, HOLD_TIMER_EXPIRED, FINITE_STATE_MACHINE, CEASE, UNSPECIFIC, ADMINISTRATIVE_RESET, ADMINISTRATIVE_SHUTDOWN, CONNECTION_REJECTED, OPEN_MESSAGE, BAD_PEER_AS}
+use Rattle.bgp_numbers.specs.declared.message.TheConstants.{ROUTE_REFRESH}
 use Rattle.bgp_frame.specs.declared.kind.Kind.{Kind}
-use Rattle.bgp_frame.specs.Prelude.{octets_of, code_of, notification_with}
+use Rattle.bgp_frame.specs.declared.kind.WideKind.{WideKind}
+use Rattle.bgp_frame.specs.Prelude.{octets_of, notification_with, wide_code}
 use Rattle.bgp_frame.specs.declared.notification.Notification.{Notification}
 use Rattle.bgp_msg.specs.Prelude.{notification_octets}
-use Rattle.bgp_open.specs.Prelude.{Said}
 use Rattle.bgp_guard.specs.declared.stage.Stage.TheVariants as stage
 use Rattle.bgp_guard.specs.declared.stage.TheConstants.{DRAIN_SECONDS}
-use Rattle.bgp_guard.specs.Guard.{Half, Sight}
+use Rattle.bgp_guard.specs.Guard.{Half, Sight, Spoken}
 
 -- the whole message
 abbrev pub notice : Notification → List ℕ
@@ -35,8 +36,12 @@ abbrev pub expired : Notification
 expired = notification_with HOLD_TIMER_EXPIRED UNSPECIFIC []
 
 -- a message of this kind is out of place
-abbrev pub unexpected : ℕ → Kind → Notification
-unexpected subcode kind = notification_with FINITE_STATE_MACHINE subcode (code_of kind ∷ [])
+abbrev pub unexpected : ℕ → WideKind → Notification
+unexpected subcode kind = notification_with FINITE_STATE_MACHINE subcode (wide_code kind ∷ [])
+
+-- a ROUTE-REFRESH, which the other side doesn't offer: a message of no type that is known
+abbrev pub not_offered : Notification
+not_offered = notification_with MESSAGE_HEADER BAD_MESSAGE_TYPE (ROUTE_REFRESH ∷ [])
 
 -- the NOTIFICATION to one side, and that to the other
 pub record Answers : Type 0 where
@@ -59,6 +64,6 @@ abbrev pub answered : Sight → Answers → Sight
 answered s a = record { stage = stage.Ends DRAIN_SECONDS; this = told a.this s.this; other = told a.other s.other }
 
 -- a side without an OPEN has timed out; the other is reset
-abbrev pub late_answer : Option Said → Notification
+abbrev pub late_answer : Option Spoken → Notification
 late_answer None = expired
 late_answer (Some said) = reset_over

@@ -37,7 +37,7 @@ abbrev pub seconds_or : ℕ → Context → ℕ
 seconds_or other ctx = if ctx.hold == 0 then other else ctx.hold
 
 abbrev pub stall_seconds : Guarding → ℕ
-stall_seconds g = seconds_or OPEN_SECONDS (agreed g.outer.peer g.inner.peer)
+stall_seconds g = seconds_or OPEN_SECONDS (agreed g.outer.peer g.inner.peer).context
 
 -- a side that was up has closed: the other gets what is queued for it, and nothing of what was held
 abbrev pub ended : Stage → Stage
@@ -128,7 +128,7 @@ abbrev pub kept_in : ℕ → Guarding → Guarding
 kept_in hold g = kept_if (keeps_alive hold g) hold g
 
 abbrev pub kept_alive : Guarding → Guarding
-kept_alive g = kept_in (agreed g.outer.peer g.inner.peer).hold g
+kept_alive g = kept_in (agreed g.outer.peer g.inner.peer).context.hold g
 
 -- ---- the seconds of a guard
 

@@ -1,11 +1,35 @@
 -- What a guard keeps of its two sides, and its stage.
 use Rattle.std.specs.Prelude.{ℕ, zero, suc, Bool, true, false, not, ◌&&◌, nat_le, List, [], length, Option, None}
-use Rattle.bgp_open.specs.Prelude.{Said}
+use Rattle.bgp_frame.specs.declared.kind.WideKind.{WideKind}
+use Rattle.bgp_frame.specs.Prelude.{MessageIn, Types, wide_types}
+use Rattle.bgp_open.specs.declared.message.Open.{Open}
+use Rattle.bgp_open.specs.Prelude.{Said, said_by, said_of}
+use Rattle.bgp_terms.specs.declared.offers.Offers.{Offers}
+use Rattle.bgp_terms.specs.Prelude.{Offered, offered_by, offered_in}
 use Rattle.bgp_clean.specs.Prelude.{no_limits}
 use Rattle.bgp_guard.specs.declared.rules.Rules.{Rules}
 use Rattle.bgp_guard.specs.declared.side.Side.{Side}
 use Rattle.bgp_guard.specs.declared.stage.Stage.{Stage}
 use Rattle.bgp_guard.specs.declared.way.TheConstants.{ROOM}
+
+-- the types of message that are read, of at most 4096 octets: those of RFC 4271, and ROUTE-REFRESH (RFC 2918), which is answered where nobody offered it
+abbrev pub types : Types WideKind
+types = wide_types (record { refresh = true; long = false })
+
+-- a message before its body is judged
+abbrev pub Framed : Type 0
+Framed = MessageIn WideKind
+
+-- what an OPEN says, and what it offers beyond a context
+pub record Spoken : Type 0 where
+  pub said : Said
+  pub offered : Offered
+
+abbrev pub spoken_by : Open → Spoken
+spoken_by o = record { said = said_by o; offered = offered_by o.caps }
+
+abbrev pub spoken_of : Offers → Spoken
+spoken_of o = record { said = said_of o.peer; offered = offered_in o }
 
 -- What is kept of a side: whether its connection is up; the octets of an incomplete message received from it; what its OPEN says, once that was
 -- passed on; whether its KEEPALIVE was; the octets queued for it; for how many seconds of an established session nothing was passed on to it;
@@ -13,7 +37,7 @@ use Rattle.bgp_guard.specs.declared.way.TheConstants.{ROOM}
 pub record Half : Type 0 where
   pub stands : Bool
   pub held : List ℕ
-  pub peer : Option Said
+  pub peer : Option Spoken
   pub ready : Bool
   pub way : List ℕ
   pub quiet : ℕ

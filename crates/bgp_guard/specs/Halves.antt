@@ -1,13 +1,12 @@
 -- What the code keeps, as the definitions have it.
 use Rattle.std.specs.Prelude.{◌≡◌, ℕ, ◌≤◌, true, List, length, option_map}
-use Rattle.bgp_open.specs.Prelude.{said_of}
 use Rattle.bgp_guard.specs.declared.line.Half as code
 use Rattle.bgp_guard.specs.declared.line.Line.{Line}
 use Rattle.bgp_guard.specs.declared.stage.Stage.{Stage}
-use Rattle.bgp_guard.specs.Guard.{Half, runs}
+use Rattle.bgp_guard.specs.Guard.{Half, runs, spoken_of}
 
 abbrev pub half_with : List ℕ → Line → Half
-half_with held l = record { stands = l.stands; held = held; peer = option_map said_of l.peer; ready = l.ready; way = l.way; quiet = l.quiet; owed = l.owed }
+half_with held l = record { stands = l.stands; held = held; peer = option_map spoken_of l.offers; ready = l.ready; way = l.way; quiet = l.quiet; owed = l.owed }
 
 abbrev pub half_of : code.Half → Half
 half_of h = half_with h.framer h.line

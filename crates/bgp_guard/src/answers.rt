@@ -1,15 +1,15 @@
 //! The NOTIFICATIONs that a guard sends itself.
 
 ghost use Rattle.std.specs.Prelude.{◌≡◌, ◌≤◌, ◌++◌, ℕ, List, length};
-ghost use Rattle.bgp_frame.specs.Prelude.{notification_of_view, short_value};
-ghost use Rattle.bgp_guard.specs.Prelude.{notice, reset_over, rejected, shutdown, expired, bad_peer_as, unexpected, answered, dismissed, reset_by, reject_both, told_late, IsAnswered, half_with, sight_with};
+ghost use Rattle.bgp_frame.specs.Prelude.{notification_of_view, short_value, wide_code};
+ghost use Rattle.bgp_guard.specs.Prelude.{notice, reset_over, rejected, shutdown, expired, bad_peer_as, not_offered, unexpected, answered, dismissed, reset_by, reject_both, told_late, IsAnswered, half_with, sight_with};
 
 use crate::came::Came;
 use crate::line::Line;
 use crate::stage::{DRAIN_SECONDS, Stage};
 use crate::way::Way;
-use bgp_frame::{Kind, NotificationView, ShortNotification, head};
-use bgp_numbers::error;
+use bgp_frame::{Kind, NotificationView, ShortNotification, WideKind, head};
+use bgp_numbers::{error, message};
 
 /// Queues a NOTIFICATION after all that is queued for a side.
 pub(crate) fn tell(why: NotificationView<'_>, way: &mut Way)
@@ -56,11 +56,32 @@ pub(crate) fn bad_peer_as() -> ShortNotification
     ShortNotification::plain(error::OPEN_MESSAGE, error::BAD_PEER_AS)
 }
 
+/// The type octet of a kind (RFC 4271, section 4.1; RFC 2918, section 3).
+fn code_of(kind: WideKind) -> u8
+    ensures { result ≡ wide_code kind }
+{
+    match kind {
+        WideKind::Base(kind) => kind as u8,
+        WideKind::Refresh => message::ROUTE_REFRESH,
+    }
+}
+
 /// A message of this kind is out of place.
-pub(crate) fn unexpected(subcode: u8, kind: Kind) -> ShortNotification
+pub(crate) fn unexpected(subcode: u8, kind: WideKind) -> ShortNotification
     ensures { short_value result ≡ unexpected subcode kind }
 {
-    ShortNotification::with_octet(error::FINITE_STATE_MACHINE, subcode, kind as u8)
+    ShortNotification::with_octet(error::FINITE_STATE_MACHINE, subcode, code_of(kind))
+}
+
+/// A ROUTE-REFRESH, which the other side doesn't offer.
+pub(crate) fn not_offered() -> ShortNotification
+    ensures { short_value result ≡ not_offered }
+{
+    ShortNotification::with_octet(
+        error::MESSAGE_HEADER,
+        error::BAD_MESSAGE_TYPE,
+        message::ROUTE_REFRESH,
+    )
 }
 
 /// Answers a side at the OPEN timeout.
@@ -68,7 +89,7 @@ pub(crate) fn tell_late(line: &mut Line)
     requires { length line.old.way ≤ 65536 }
     ensures { (held : List ℕ) → half_with held line.new ≡ told_late (half_with held line.old) }
 {
-    let why = match line.peer {
+    let why = match line.offers {
         None => expired(),
         Some(_) => reset_over(),
     };

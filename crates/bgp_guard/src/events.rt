@@ -1,8 +1,8 @@
 //! Events without octets, as one side sees them.
 
 ghost use Rattle.std.specs.Prelude.{◌≡◌, ◌≤◌, length, true};
-ghost use Rattle.bgp_frame.specs.Prelude.{short_value, Waits};
-ghost use Rattle.bgp_guard.specs.Prelude.{closed, cut_if, stalled, unreached, HasRoom, sight_of};
+ghost use Rattle.bgp_frame.specs.Prelude.{short_value, WaitsIn};
+ghost use Rattle.bgp_guard.specs.Prelude.{closed, cut_if, stalled, unreached, HasRoom, sight_of, types};
 
 use crate::answers::{expired, rejected, tell};
 use crate::line::Half;
@@ -56,7 +56,7 @@ pub(crate) fn stall(stage: &mut Stage, this: &mut Half, other: &mut Half)
 /// A side has closed.
 pub(crate) fn close(stage: &mut Stage, this: &mut Half)
     ensures after { (k : Half) → sight_of stage.new this.new k ≡ closed (sight_of stage.old this.old k) }
-    ensures waits { Waits this.old.framer → Waits this.new.framer }
+    ensures waits { WaitsIn types this.old.framer → WaitsIn types this.new.framer }
 {
     if !this.line.stands {
         return;

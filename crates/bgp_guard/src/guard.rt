@@ -17,6 +17,7 @@ use crate::rules::Rules;
 use crate::side::Side;
 use crate::stage::{DRAIN_SECONDS, OPEN_SECONDS, Stage};
 use bgp_open::Peer;
+use bgp_terms::Offers;
 use std::alloc::{AllocError, Global};
 use std::marker::Model;
 
@@ -40,15 +41,25 @@ pub struct Guard {
 }
 
 impl Model for Guard {
-    ghost use Rattle.bgp_frame.specs.Frame.{Waits};
-    ghost use Rattle.bgp_guard.specs.Guard.{Guarding};
+    ghost use Rattle.bgp_frame.specs.Prelude.{WaitsIn};
+    ghost use Rattle.bgp_guard.specs.Guard.{Guarding, types};
     ghost use Rattle.bgp_guard.specs.Halves.{half_of, HasRoom};
 
     ghost Value = { Guarding };
 
     ghost view = { λ g. record { rules = g.rules; stage = g.stage; outer = half_of g.outer; inner = half_of g.inner } };
 
-    ghost invariant = { λ g. HasRoom g.stage g.outer.line.way × (HasRoom g.stage g.inner.line.way × (Waits g.outer.framer × Waits g.inner.framer)) };
+    ghost invariant = { λ g. HasRoom g.stage g.outer.line.way × (HasRoom g.stage g.inner.line.way × (WaitsIn types g.outer.framer × WaitsIn types g.inner.framer)) };
+}
+
+/// What an OPEN says, where one was passed on.
+fn said(offers: &Option<Offers>) -> Option<&Peer>
+    ensures { option_map (λ p. said_of p.now) result ≡ option_map (λ o. said_of o.peer) offers.now }
+{
+    match offers {
+        Some(offers) => Some(&offers.peer),
+        None => None,
+    }
 }
 
 impl Guard {
@@ -216,11 +227,11 @@ impl Guard {
 
     /// What the OPEN of a side says, once it was passed on.
     pub fn peer(&self, side: Side) -> Option<&Peer>
-        ensures { option_map (λ p. said_of p.now) result ≡ (half side self.now).peer }
+        ensures { option_map (λ p. said_of p.now) result ≡ option_map (λ spoken. spoken.said) (half side self.now).peer }
     {
         match side {
-            Side::Outer => self.outer.line.peer.as_ref(),
-            Side::Inner => self.inner.line.peer.as_ref(),
+            Side::Outer => said(&self.outer.line.offers),
+            Side::Inner => said(&self.inner.line.offers),
         }
     }
 
@@ -240,7 +251,7 @@ impl Guard {
         ensures { result ≡ is_waiting self.now }
     {
         let any = self.outer.line.stands || self.inner.line.stands;
-        any && !(self.outer.line.peer.is_some() && self.inner.line.peer.is_some())
+        any && !(self.outer.line.offers.is_some() && self.inner.line.offers.is_some())
     }
 
     // Queues KEEPALIVEs for the sides of an established session where they are due.

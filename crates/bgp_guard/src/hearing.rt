@@ -1,8 +1,8 @@
 //! What the octets of a side do.
 
 ghost use Rattle.std.specs.Prelude.{◌≡◌, ◌≤◌, length};
-ghost use Rattle.bgp_frame.specs.Prelude.{Waits, IsHeld};
-ghost use Rattle.bgp_guard.specs.Prelude.{listens_in, IsHeardBy, HasRoom, sight_of, IsSettled};
+ghost use Rattle.bgp_frame.specs.Prelude.{WaitsIn, IsHeldIn};
+ghost use Rattle.bgp_guard.specs.Prelude.{listens_in, IsHeardBy, HasRoom, sight_of, types, IsSettled};
 
 use crate::answers::reset;
 use crate::came::Came;
@@ -25,12 +25,12 @@ pub(crate) fn listens(stage: Stage, this: &Half, other: &Half) -> bool
 
 /// The result of the octets that are held: where they are whole, nothing is held after it.
 fn settle(rules: &Rules, silent: bool, stage: &mut Stage, this: &mut Half, other: &mut Half) -> Came
-    requires can_hold { IsHeld this.old.framer }
+    requires can_hold { IsHeldIn types this.old.framer }
     requires room { length this.old.line.way ≤ 65536 }
     requires others_room { length other.old.line.way ≤ 53248 }
     ensures settled { IsSettled rules.now silent (sight_of stage.old this.old other.old) result (sight_of stage.new this.new other.new) }
     ensures room { HasRoom stage.new this.new.line.way × HasRoom stage.new other.new.line.way }
-    ensures waits { Waits this.new.framer }
+    ensures waits { WaitsIn types this.new.framer }
     ensures others_held { other.new.framer ≡ other.old.framer }
 {
     match this.framer.step() {
@@ -68,10 +68,10 @@ pub(crate) fn hear(
 ) -> (usize, Came)
     requires room { HasRoom stage.old this.old.line.way }
     requires others_room { HasRoom stage.old other.old.line.way }
-    requires waits { Waits this.old.framer }
+    requires waits { WaitsIn types this.old.framer }
     ensures heard { IsHeardBy rules.now silent (sight_of stage.old this.old other.old) piece.now result.0 result.1 (sight_of stage.new this.new other.new) }
     ensures room { HasRoom stage.new this.new.line.way × HasRoom stage.new other.new.line.way }
-    ensures waits { Waits this.new.framer }
+    ensures waits { WaitsIn types this.new.framer }
     ensures others_held { other.new.framer ≡ other.old.framer }
 {
     if !listens(*stage, this, other) {

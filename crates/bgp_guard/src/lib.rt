@@ -4,6 +4,7 @@
 #![tactic(auto)]
 
 mod answers;
+mod buffer;
 mod came;
 mod events;
 mod guard;

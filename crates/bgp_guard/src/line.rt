@@ -3,9 +3,9 @@
 ghost use Rattle.std.specs.Prelude.{◌≡◌, IfOk};
 ghost use Rattle.bgp_guard.specs.Prelude.{absent, half_of};
 
+use crate::buffer::Buffer;
 use crate::way::Way;
-use bgp_frame::Framer;
-use bgp_open::Peer;
+use bgp_terms::Offers;
 use std::alloc::{AllocError, Global};
 
 /// All but the octets of an incomplete message.
@@ -13,8 +13,8 @@ use std::alloc::{AllocError, Global};
 pub(crate) struct Line {
     /// Whether the connection is up.
     pub(crate) stands: bool,
-    /// What its OPEN says, once that was passed on.
-    pub(crate) peer: Option<Peer>,
+    /// What its OPEN says and offers, once that was passed on.
+    pub(crate) offers: Option<Offers>,
     /// Whether its KEEPALIVE was passed on.
     pub(crate) ready: bool,
     /// The octets queued for the side.
@@ -29,7 +29,7 @@ pub(crate) struct Line {
 #[derive(Drop)]
 pub(crate) struct Half {
     /// The octets of an incomplete message.
-    pub(crate) framer: Framer,
+    pub(crate) framer: Buffer,
     /// All else.
     pub(crate) line: Line,
 }
@@ -44,10 +44,10 @@ impl Half {
     {
         let way = Way::new(alloc)?;
         Ok(Half {
-            framer: Framer::new(),
+            framer: Buffer::new(),
             line: Line {
                 stands: false,
-                peer: None,
+                offers: None,
                 ready: false,
                 way,
                 quiet: 0,

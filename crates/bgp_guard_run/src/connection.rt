@@ -10,7 +10,7 @@ use crate::log::Log;
 use crate::piece::{PIECE, Piece};
 use crate::reasons::{Deed, Judged};
 use crate::why::{Code, Why};
-use bgp_frame::Kind;
+use bgp_frame::{Kind, WideKind};
 use bgp_guard::{Came, DRAIN_SECONDS, Guard, Side};
 use bgp_open::{Context, agreed_context};
 use bgp_wire::OctetSet;
@@ -350,14 +350,16 @@ impl Connection {
                 None
             }
             Came::HandedOn { kind, same } => {
-                self.is_ready = self.is_ready || kind == Kind::Keepalive;
+                self.is_ready = self.is_ready || kind == WideKind::Base(Kind::Keepalive);
                 if same {
                     log.passes(name);
                 } else {
                     log.changes(place, kind, &self.judged(guard, Deed::Changed, before));
                 }
                 match (kind, code_in(guard.way(self.side.other()), before)) {
-                    (Kind::Notification, Some(code)) => Some(Why::Notified(self.side, code)),
+                    (WideKind::Base(Kind::Notification), Some(code)) => {
+                        Some(Why::Notified(self.side, code))
+                    }
                     _ => None,
                 }
             }

@@ -4,7 +4,7 @@ use crate::counts::Counts;
 use crate::reasons::{Reasons, put_reasons, put_reasons_json};
 use crate::stamp::Stamp;
 use crate::why::{Code, Why, name_of};
-use bgp_frame::Kind;
+use bgp_frame::{Kind, WideKind};
 use bgp_guard::Side;
 use bgp_names::subcode_name;
 use bgp_open::Peer;
@@ -41,9 +41,9 @@ pub(crate) enum Event<'a> {
     /// OPEN and KEEPALIVE of both sides were passed on.
     IsUp(Name, &'a Peer, &'a Peer),
     /// A message was passed on with other octets.
-    Changed(Place, Kind, &'a Reasons),
+    Changed(Place, WideKind, &'a Reasons),
     /// Nothing was passed on of a message.
-    Dropped(Place, Kind, &'a Reasons),
+    Dropped(Place, WideKind, &'a Reasons),
     /// A side was answered.
     Answered(Place, Code, &'a Reasons),
     /// A session has ended.
@@ -74,12 +74,13 @@ pub(crate) struct Line<'a> {
 }
 
 // The name of a type of message.
-fn kind_name(kind: Kind) -> &'static str {
+fn kind_name(kind: WideKind) -> &'static str {
     match kind {
-        Kind::Open => "OPEN",
-        Kind::Update => "UPDATE",
-        Kind::Notification => "NOTIFICATION",
-        Kind::Keepalive => "KEEPALIVE",
+        WideKind::Base(Kind::Open) => "OPEN",
+        WideKind::Base(Kind::Update) => "UPDATE",
+        WideKind::Base(Kind::Notification) => "NOTIFICATION",
+        WideKind::Base(Kind::Keepalive) => "KEEPALIVE",
+        WideKind::Refresh => "ROUTE-REFRESH",
     }
 }
 
@@ -110,7 +111,7 @@ fn put_message<W: fmt::Write>(
     f: &mut fmt::Formatter<W>,
     verb: &str,
     place: &Place,
-    kind: Kind,
+    kind: WideKind,
     reasons: &Reasons,
     form: Form,
 ) -> fmt::Result {
@@ -221,7 +222,7 @@ fn put_message_json<W: fmt::Write>(
     f: &mut fmt::Formatter<W>,
     verb: &str,
     place: &Place,
-    kind: Kind,
+    kind: WideKind,
     reasons: &Reasons,
 ) -> fmt::Result {
     put_place_json(f, verb, place)?;

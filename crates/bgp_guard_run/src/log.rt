@@ -10,7 +10,7 @@ use crate::stamp::Stamp;
 use crate::talkers::Talkers;
 use crate::tallies::{Counted, Metrics, Tallies};
 use crate::why::{Code, Why};
-use bgp_frame::Kind;
+use bgp_frame::WideKind;
 use bgp_guard_net::has_room;
 use bgp_open::Peer;
 use std::io;
@@ -146,7 +146,7 @@ impl<'a> Log<'a> {
     }
 
     /// A message of a side was passed on with other octets.
-    pub(crate) fn changes(&mut self, place: Place, kind: Kind, judged: &Judged<'_>) {
+    pub(crate) fn changes(&mut self, place: Place, kind: WideKind, judged: &Judged<'_>) {
         count(&mut self.counts.messages);
         count(&mut self.counts.changed);
         let is_told = self.talkers.may_tell_message(place.name);
@@ -158,7 +158,7 @@ impl<'a> Log<'a> {
     }
 
     /// Nothing was passed on of a message of a side.
-    pub(crate) fn drops(&mut self, place: Place, kind: Kind, judged: &Judged<'_>) {
+    pub(crate) fn drops(&mut self, place: Place, kind: WideKind, judged: &Judged<'_>) {
         count(&mut self.counts.dropped);
         let is_told = self.talkers.may_tell_message(place.name);
         let reasons = self.reasons(judged, is_told);

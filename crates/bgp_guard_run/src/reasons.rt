@@ -52,8 +52,31 @@ pub(crate) enum Reason {
     Attribute(u8, Why),
     /// Its routes are beyond a limit.
     Limit,
+    /// What a ROUTE-REFRESH has that isn't passed on.
+    Refresh(Unasked),
     /// It was answered for this fault.
     Cause(Cause),
+}
+
+/// What a ROUTE-REFRESH has that isn't passed on.
+#[derive(Clone, Copy, PartialEq, Eq)]
+pub(crate) enum Unasked {
+    /// A family that isn't agreed on.
+    Family,
+    /// A subtype: a request is passed on.
+    Subtype,
+    /// Octets after the family.
+    Rest,
+}
+
+impl fmt::Display for Unasked {
+    fn fmt<W: fmt::Write>(&self, f: &mut fmt::Formatter<W>) -> fmt::Result {
+        f.write_str(match self {
+            Unasked::Family => "family not agreed on (RFC 2918, section 4)",
+            Unasked::Subtype => "subtype not agreed on (RFC 7313, section 3.1)",
+            Unasked::Rest => "octets after the family left out",
+        })
+    }
 }
 
 /// The reasons of a message.
@@ -68,10 +91,11 @@ fn octet_at(octets: &[u8], at: usize) -> u8 {
     octets.get(at).copied().unwrap_or(0)
 }
 
-// Whether a capability is passed on: 4-octet AS numbers, and unicast of IPv4 and IPv6 (RFC 4760, section 8).
+// Whether a capability is passed on: 4-octet AS numbers, unicast of IPv4 and IPv6 (RFC 4760, section 8), and ROUTE-REFRESH.
 fn is_understood(octets: &[u8], at: usize) -> bool {
     match octet_at(octets, at) {
         65 => true,
+        2 => octet_at(octets, at.saturating_add(1)) == 0,
         1 => match octets.get(at.saturating_add(2)..) {
             Some([0, 1 | 2, _, 1, ..]) => true,
             _ => false,
@@ -184,9 +208,24 @@ impl Reasons {
         }
     }
 
+    // Those of a ROUTE-REFRESH that was dropped or changed.
+    fn add_refresh(&mut self, judged: &Judged<'_>) {
+        let unasked = match judged.deed {
+            Deed::Answered => return,
+            Deed::Dropped => Unasked::Family,
+            Deed::Changed if judged.octets.len() > 23 => Unasked::Rest,
+            Deed::Changed => Unasked::Subtype,
+        };
+        self.add(Reason::Refresh(unasked));
+    }
+
     /// Those of a message.
     pub(crate) fn of(judged: &Judged<'_>) -> Reasons {
         let mut found = Reasons::none();
+        if octet_at(judged.octets, 18) == 5 {
+            found.add_refresh(judged);
+            return found;
+        }
         match front(judged.octets) {
             Step::Frame(frame) => found.add_frame(judged, frame),
             Step::Fault(_) => found.add(Reason::Cause(Cause::Header)),
@@ -235,6 +274,7 @@ impl fmt::Display for Reason {
                 put_section(f, note_section(*kind, *why))
             }
             Reason::Limit => f.write_str("beyond a limit"),
+            Reason::Refresh(unasked) => write!(f, "{unasked}"),
             Reason::Cause(cause) => f.write_str(cause_section(*cause)),
         }
     }

@@ -1111,7 +1111,8 @@ ristulva_status ristulva_session_send(ristulva_session *session, const uint8_t *
  * A guard is in one session between an outer peer and an inner speaker. What a side sends is passed on to the other cleaned, as by ristulva_clean,
  * in the context that both OPENs agree on. A message that can't be ends the session of both: its sender gets the NOTIFICATION that answers it, and
  * the other side Cease, Administrative Reset (6/4); where an OPEN offers neither IPv4 nor IPv6 unicast, both get 6/5. A NOTIFICATION is passed on,
- * and ends it too. Then nothing more is read, and each side is to be closed once it was sent what is queued.
+ * and ends it too. Then nothing more is read, and each side is to be closed once it was sent what is queued. OPENs keep ROUTE-REFRESH (RFC 2918): one
+ * is passed on to a side that offers it, for a family that both offer; to another side its type is unknown (1/3).
  *
  * The guard does no IO and knows no time: its host has both connections and a clock. In its loop it asks for each side what is to be done
  * (ristulva_guard_asks), reads and passes what arrived (ristulva_guard_hear), sends what is queued (ristulva_guard_way, ristulva_guard_sent), and
@@ -1182,11 +1183,12 @@ ristulva_status ristulva_guard_asks(ristulva_guard *guard, uint32_t side, ristul
 #define RISTULVA_CAME_NOTHING 0u   /* no message is complete yet, or the side isn't read */
 #define RISTULVA_CAME_HANDED_ON 1u /* a message was passed on; a NOTIFICATION ends the guard */
 #define RISTULVA_CAME_ANSWERED 2u  /* the side was answered by a NOTIFICATION, and the guard has ended */
-#define RISTULVA_CAME_DROPPED 3u   /* nothing was passed on of an UPDATE: it has no routes, or they stay inside */
+#define RISTULVA_CAME_DROPPED 3u   /* nothing was passed on of an UPDATE: it has no routes, or they stay inside; or of a ROUTE-REFRESH: its family isn't
+                                    * agreed on */
 
 typedef struct {
     uint8_t what; /* RISTULVA_CAME_NOTHING to RISTULVA_CAME_DROPPED */
-    uint8_t kind; /* RISTULVA_CAME_HANDED_ON, RISTULVA_CAME_DROPPED: the type of the received message, 1 to 4. Else 0 */
+    uint8_t kind; /* RISTULVA_CAME_HANDED_ON, RISTULVA_CAME_DROPPED: the type of the received message, 1 to 5. Else 0 */
     uint8_t same; /* RISTULVA_CAME_HANDED_ON: 1 where what was passed on has the same octets. Else 0 */
     uint8_t code; /* RISTULVA_CAME_ANSWERED: code and subcode of that NOTIFICATION (RFC 4271, section 4.5). Else 0 */
     uint8_t subcode;

@@ -6,6 +6,7 @@ use Rattle.bgp_clean.specs.declared.cleaned.Cleaned.{Cleaned}
 use Rattle.bgp_clean.specs.declared.cleaned.Cleaned.TheVariants.{HandedOn, Ends}
 use Rattle.bgp_clean.specs.declared.fault.CleanFault.{CleanFault}
 use Rattle.bgp_clean.specs.Prelude.{IsCleaned, no_limits, refuses_in}
+use Rattle.bgp_terms.specs.declared.refreshes.Refreshes.TheVariants as refreshes
 use Rattle.bgp_clean.proofs.Handed.{handed-clean}
 use Rattle.ristulva_c.specs.Prelude.{handed_octets, Cleaning, Hands, HandsClean, IsHandedOn}
 
@@ -17,7 +18,7 @@ appended ctx (Err f) old new (Ends g) is = is.1 ∙ sym (append-nil old)
 
 hands_clean : (ctx : Context) (drops : ℕ → Bool) (first : Bool) (octets : List ℕ) (found : Step) → AreOctets octets → ShowsFront octets found → HandsClean ctx drops first found
 hands_clean ctx drops first octets step.More are shows = tt
-hands_clean ctx drops first octets (step.Frame f) are shows = λ ns e. handed-clean ctx drops (refuses_in ctx no_limits) first (message_in f) (take f.len octets) ns (AreOctets-take f.len octets are) shows.1 e
+hands_clean ctx drops first octets (step.Frame f) are shows = λ ns e. handed-clean refreshes.None ctx drops (refuses_in ctx no_limits) first (message_in f) (take f.len octets) ns (AreOctets-take f.len octets are) shows.1 e
 hands_clean ctx drops first octets (step.Fault f) are shows = tt
 
 pub handed_on : (ctx : Context) (drops : ℕ → Bool) (first : Bool) (octets : List ℕ) (found : Step) (c : Cleaning) → AreOctets octets → ShowsFront octets found → Hands ctx drops first found c

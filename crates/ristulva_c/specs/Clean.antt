@@ -12,6 +12,7 @@ use Rattle.bgp_msg.specs.Prelude.{out_of, of_fault}
 use Rattle.bgp_msg.specs.declared.message.Message.TheVariants as message
 use Rattle.bgp_msg.specs.declared.outcome.Outcome.TheVariants as outcome
 use Rattle.bgp_clean.specs.declared.fault.CleanFault.{CleanFault}
+use Rattle.bgp_terms.specs.declared.refreshes.Refreshes.TheVariants as refreshes
 use Rattle.bgp_clean.specs.Prelude.{cleaned, cleaned_outcome, no_limits, octets_handed, refuses_in, IsClean, understood}
 use Rattle.bgp_clean.specs.declared.fault.CleanFault.TheVariants as fault
 use Rattle.ristulva_c.specs.declared.cleaning.ToldCleaned.{ToldCleaned}
@@ -131,7 +132,7 @@ abbrev pub Hands : Context → (ℕ → Bool) → Bool → Step → Cleaning →
 Hands ctx drops first step.More c = IsLeft INCOMPLETE c
 Hands ctx drops first (step.Frame f) c = IsHanded (handed_octets ctx (cleaned ctx drops (refuses_in ctx no_limits) first (message_in f)))
     (cleaned_told f.len drops (out_of ctx (message_in f)) (cleaned ctx drops (refuses_in ctx no_limits) first (message_in f))) c
-Hands ctx drops first (step.Fault f) c = IsHanded [] (cleaned_told 0 drops (of_fault f) (cleaned_outcome drops (refuses_in ctx no_limits) first None (of_fault f))) c
+Hands ctx drops first (step.Fault f) c = IsHanded [] (cleaned_told 0 drops (of_fault f) (cleaned_outcome refreshes.None drops (refuses_in ctx no_limits) first None (of_fault f))) c
 
 -- what is passed on of a message is accepted in the same context without a note, is passed on unchanged when cleaned again, has no message that is
 -- longer, and a receiver learns from it what RFC 7606 has the receiver of the message learn

@@ -1,7 +1,7 @@
 -- What the calls on a guard do.
-use Rattle.std.specs.Prelude.{◌≡◌, ◌⊎◌, ℕ, ◌==◌, false, List, length, take, Option, None, Some, if◌then◌else◌}
+use Rattle.std.specs.Prelude.{◌≡◌, ◌⊎◌, ℕ, ◌==◌, false, List, length, take, Option, None, Some, option_map, if◌then◌else◌}
 use Rattle.bgp_wire.specs.Prelude.{all_but, has_octet}
-use Rattle.bgp_frame.specs.Prelude.{code_of}
+use Rattle.bgp_frame.specs.Prelude.{wide_code}
 use Rattle.bgp_clean.specs.Prelude.{no_limits}
 use Rattle.bgp_guard.specs.declared.came.Came.{Came}
 use Rattle.bgp_guard.specs.declared.rules.Rules.{Rules}
@@ -46,8 +46,8 @@ rule_of event.Stalled = stalled
 
 abbrev pub came_told : Came → ToldCame
 came_told came.Nothing = record { what = CAME_NOTHING; kind = 0; same = 0; code = 0; subcode = 0 }
-came_told (came.Dropped kind) = record { what = CAME_DROPPED; kind = code_of kind; same = 0; code = 0; subcode = 0 }
-came_told (came.HandedOn kind same) = record { what = CAME_HANDED_ON; kind = code_of kind; same = one_if same; code = 0; subcode = 0 }
+came_told (came.Dropped kind) = record { what = CAME_DROPPED; kind = wide_code kind; same = 0; code = 0; subcode = 0 }
+came_told (came.HandedOn kind same) = record { what = CAME_HANDED_ON; kind = wide_code kind; same = one_if same; code = 0; subcode = 0 }
 came_told (came.Answered code subcode) = record { what = CAME_ANSWERED; kind = 0; same = 0; code = code; subcode = subcode }
 
 -- what the owner is to do for a side
@@ -159,4 +159,4 @@ ShowsWay (Some side) (Some g) w = IsFrontOf (half side g).way w
 abbrev pub IsPeerTold : Option Side → Option Guarding → ℕ → ToldPeer → ToldPeer → Type 0
 IsPeerTold None old status before behind = (status ≡ RANGE) × (behind ≡ before)
 IsPeerTold (Some side) None status before behind = (status ≡ NO_SESSION) × (behind ≡ before)
-IsPeerTold (Some side) (Some g) status before behind = IsKnown (half side g).peer status before behind
+IsPeerTold (Some side) (Some g) status before behind = IsKnown (option_map (λ s. s.said) (half side g).peer) status before behind

@@ -5,8 +5,8 @@ ghost use Rattle.ristulva_c.specs.Prelude.{side_of, rule_of, came_told, GoesOn, 
 ghost use Rattle.ristulva_c.specs.Guard.{event_of, IsMade, IsFreed};
 ghost use Rattle.ristulva_c.specs.declared.status.TheConstants.{OK};
 
+use crate::front_in::wide_code;
 use crate::handle::GuardHandle;
-use crate::judge::code_of;
 use crate::rules::rules_of;
 use crate::sides::{event_of, happen, side_of};
 use crate::status::{IN_USE, MEMORY, NO_SESSION, OK, RANGE};
@@ -22,7 +22,8 @@ pub const CAME_HANDED_ON: u8 = 1;
 /// The side was answered by a NOTIFICATION, and the guard has ended.
 pub const CAME_ANSWERED: u8 = 2;
 
-/// Nothing was passed on of a message: of an UPDATE without routes, or whose routes stay inside.
+/// Nothing was passed on of a message: of an UPDATE without routes, or whose routes stay inside; of a ROUTE-REFRESH that
+/// the other side has no use for.
 pub const CAME_DROPPED: u8 = 3;
 
 /// The result of the octets that a side sent.
@@ -31,7 +32,7 @@ pub const CAME_DROPPED: u8 = 3;
 pub struct ToldCame {
     /// `CAME_NOTHING` to `CAME_DROPPED`.
     pub what: u8,
-    /// The type of the message that was passed on or dropped, 1 to 4; else 0.
+    /// The type of the message that was passed on or dropped, 1 to 5; else 0.
     pub kind: u8,
     /// Whether what was passed on has the same octets; else 0.
     pub same: u8,
@@ -47,8 +48,8 @@ fn came_told(came: Came) -> ToldCame
 {
     let (what, kind, same, code, subcode) = match came {
         Came::Nothing => (CAME_NOTHING, 0, 0, 0, 0),
-        Came::Dropped { kind } => (CAME_DROPPED, code_of(kind), 0, 0, 0),
-        Came::HandedOn { kind, same } => (CAME_HANDED_ON, code_of(kind), u8::from(same), 0, 0),
+        Came::Dropped { kind } => (CAME_DROPPED, wide_code(kind), 0, 0, 0),
+        Came::HandedOn { kind, same } => (CAME_HANDED_ON, wide_code(kind), u8::from(same), 0, 0),
         Came::Answered { code, subcode } => (CAME_ANSWERED, 0, 0, code, subcode),
     };
     ToldCame {

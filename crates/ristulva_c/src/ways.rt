@@ -1,6 +1,6 @@
 //! What a guard requires of its owner, and what is queued for its sides.
 
-ghost use Rattle.std.specs.Prelude.{◌≡◌, ◌≤◌, Some, length, take};
+ghost use Rattle.std.specs.Prelude.{◌≡◌, ◌≤◌, Some, length, option_map, take};
 ghost use Rattle.ristulva_c.specs.Prelude.{side_of, asks_told, GoesOn, IsAsked, IsFrontOf, ShowsWay, TellsStall, IsKnown};
 ghost use Rattle.ristulva_c.specs.Guard.{IsPeerTold};
 ghost use Rattle.bgp_guard.specs.Prelude.{half, sent};
@@ -145,7 +145,7 @@ pub extern "C" fn ristulva_guard_sent(
 
 /// Writes what the OPEN of a side says, once it was passed on.
 fn tell_peer(guard: &Guard, side: Side, peer: &mut ToldPeer) -> u32
-    ensures { IsKnown (half side guard.now).peer result peer.old peer.new }
+    ensures { IsKnown (option_map (λ s. s.said) (half side guard.now).peer) result peer.old peer.new }
 {
     let Some(said) = guard.peer(side) else {
         return STATE;

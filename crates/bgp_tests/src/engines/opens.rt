@@ -5,6 +5,7 @@ use super::tool::{Tool, input_of};
 use bgp_clean::Limits;
 use bgp_engine::*;
 use bgp_open::Context;
+use bgp_terms::{Refreshes, WideTerms};
 use bgp_wire::OctetSet;
 use std::alloc::Global;
 use std::process::Abort;
@@ -54,6 +55,8 @@ enum Way {
     Check,
     Narrow,
     Clean,
+    /// `Clean`, where both offer ROUTE-REFRESH.
+    CleanRefresh,
 }
 
 const WAYS: [Way; 5] = [Way::Show, Way::Json, Way::Check, Way::Narrow, Way::Clean];
@@ -70,7 +73,7 @@ fn by_opens(
         Way::Json => show_json_by_opens(alloc, theirs, false, input, output),
         Way::Check => check_by_opens(alloc, theirs, false, input, output),
         Way::Narrow => narrow_by_opens(alloc, theirs, input, output),
-        Way::Clean => clean_by_opens(
+        Way::Clean | Way::CleanRefresh => clean_by_opens(
             alloc,
             theirs,
             &OctetSet::new(),
@@ -95,7 +98,7 @@ fn by_opens_within(
         Way::Json => show_json_by_opens_within(alloc, turns, theirs, false, input, &mut output),
         Way::Check => check_by_opens_within(alloc, turns, theirs, false, input, &mut output),
         Way::Narrow => narrow_by_opens_within(alloc, turns, theirs, input, &mut output),
-        Way::Clean => {
+        Way::Clean | Way::CleanRefresh => {
             let none = OctetSet::new();
             clean_by_opens_within(
                 alloc,
@@ -126,6 +129,15 @@ fn by_flags(
         Way::Clean => clean_stream(
             alloc,
             ctx,
+            &OctetSet::new(),
+            &Limits::none(),
+            false,
+            input,
+            output,
+        ),
+        Way::CleanRefresh => clean_under(
+            alloc,
+            &WideTerms::with_refresh(*ctx, Refreshes::Plain),
             &OctetSet::new(),
             &Limits::none(),
             false,
@@ -188,17 +200,19 @@ fn contexts_of_two_opens(rt: HostRuntime) -> Result<(), Fail> {
         assert_agreed(&rt, way, NARROW, OURS, &context(true, false, true))?;
         assert_agreed(&rt, way, OURS, PLAIN, &context(true, false, false))?;
         assert_agreed(&rt, way, THEIRS, PLAIN, &context(false, false, false))?;
+        assert_agreed(&rt, way, UNSEEN, PLAIN, &context(true, false, false))?;
+        assert_agreed(&rt, way, PLAIN, UNSEEN, &context(true, false, false))?;
+        assert_agreed(&rt, way, UNSEEN, OURS, &context(false, true, true))?;
+        assert_agreed(&rt, way, READS, SENDS, &context(false, true, true))?;
+        assert_agreed(&rt, way, SENDS, UNKNOWN, &context(false, true, true))?;
+    }
+    for way in [Way::Show, Way::Json, Way::Check, Way::CleanRefresh] {
         let ip4 = Context {
             ip4: true,
             ..context(true, false, false)
         };
         assert_agreed(&rt, way, BIRD, GOBGP, &ip4)?;
         assert_agreed(&rt, way, GOBGP, BIRD, &ip4)?;
-        assert_agreed(&rt, way, UNSEEN, PLAIN, &context(true, false, false))?;
-        assert_agreed(&rt, way, PLAIN, UNSEEN, &context(true, false, false))?;
-        assert_agreed(&rt, way, UNSEEN, OURS, &context(false, true, true))?;
-        assert_agreed(&rt, way, READS, SENDS, &context(false, true, true))?;
-        assert_agreed(&rt, way, SENDS, UNKNOWN, &context(false, true, true))?;
     }
     assert_agreed(&rt, Way::Narrow, OURS, THEIRS, &context(false, true, true))
 }

@@ -9,4 +9,4 @@ with_words-requires g c = wordless _ c.args.hex _ c.start_stream-answer.result.0
 pub returns : goal.returns
 returns g c =
     rw c.with_words.ensures
-    (rw (c.new-page.ensures.drops, c.new-page.ensures.limits) at (answers_as _ _ c.args.hex _ c.start_stream-answer.result.0 (from_same _ _ (clean_under (wide_terms c.args.terms.now) c.new-page.result c.new-page.ensures.context)) c.start_stream-answer.ensures))
+    (rw (c.new-page.ensures.drops, c.new-page.ensures.limits) at (answers_as _ _ c.args.hex _ c.start_stream-answer.result.0 (from_same _ _ (clean_under (wide_terms c.args.terms.now) c.new-page.result c.new-page.ensures.offers c.new-page.ensures.context)) c.start_stream-answer.ensures))

@@ -8,4 +8,4 @@ with_words-requires g c = wordless _ c.args.hex _ c.start_stream-answer.result.0
 pub returns : goal.returns
 returns g c =
     rw c.with_words.ensures
-    (rw (c.new-page.ensures.context, c.new-page.ensures.drops, c.new-page.ensures.limits) at (answers_as _ _ c.args.hex _ c.start_stream-answer.result.0 (clean_same c.new-page.result) c.start_stream-answer.ensures))
+    (rw (c.new-page.ensures.context, c.new-page.ensures.drops, c.new-page.ensures.limits) at (answers_as _ _ c.args.hex _ c.start_stream-answer.result.0 (clean_same c.new-page.result c.new-page.ensures.offers) c.start_stream-answer.ensures))

@@ -1,24 +1,19 @@
-use Rattle.bgp_guard.proofs.Prelude.{◌≡◌, [], ap, sym, subst, ◌∙◌, notification_of_view, message_in, Outcome, out_of, Answers, answered, reset_by}
-use Rattle.bgp_guard.proofs.Prelude.{reject_both, IsAnswered, answers_to, sight_with}
-use Rattle.bgp_guard.proofs.Sights.{no_reset, over}
+use Rattle.bgp_guard.proofs.Prelude.{ap, sym, ◌∙◌, WideKind, answered, answers_to, sight_with}
+use Rattle.bgp_wide.specs.Prelude.{of_kind}
 use Rattle.bgp_guard.proofs.handing.refuse.Goals as goal
 
-pub returns-in-Reset-clause-after : goal.returns-in-Reset-clause-after
-returns-in-Reset-clause-after c =
-    λ h k. c.reset.ensures.after h k
-    ∙ ap (λ (o : Outcome). answered (sight_with h k c.args.stage.now c.args.this.now c.args.other.now) (answers_to o)) c.in-Reset.ensures
+pub returns-in-Base-clause-after : goal.returns-in-Base-clause-after
+returns-in-Base-clause-after c =
+    λ h k.
+    let s = sight_with h k c.args.stage.now c.args.this.now c.args.other.now in
+    let agreed = c.args.agreed.now in
+    c.refuse_base.ensures.after h k
+    ∙ sym (ap (λ (kind : WideKind). answered s (answers_to (of_kind agreed.context agreed.refresh kind c.args.frame.body.now))) c.in-Base.is)
 
-pub returns-in-Reset-clause-over : goal.returns-in-Reset-clause-over
-returns-in-Reset-clause-over c =
-    over (sight_with [] [] c.args.stage.now c.args.this.now c.args.other.now) (sight_with [] [] c.reset.new.stage c.reset.new.this c.reset.new.other)
-    (reset_by (notification_of_view c.in-Reset.why)) (c.reset.ensures.after [] [])
-
-pub returns-in_default : goal.returns-in_default
-returns-in_default c =
-    let same : answers_to (out_of c.args.ctx.now (message_in c.args.frame)) ≡ reject_both = ap answers_to (sym c.view_frame.ensures) ∙ no_reset c.view_frame.result c.in_default.not-Reset in
-    record {
-      after = λ h k. c.reject.ensures.after h k ∙ ap (λ (a : Answers). answered (sight_with h k c.args.stage.now c.args.this.now c.args.other.now) a) (sym same);
-      told = subst (λ (a : Answers). IsAnswered a.this c.reject.result) (sym same) c.reject.ensures.told;
-      over = over (sight_with [] [] c.args.stage.now c.args.this.now c.args.other.now) (sight_with [] [] c.reject.new.stage c.reject.new.this c.reject.new.other)
-          reject_both (c.reject.ensures.after [] []);
-    }
+pub returns-in-Refresh-clause-after : goal.returns-in-Refresh-clause-after
+returns-in-Refresh-clause-after c =
+    λ h k.
+    let s = sight_with h k c.args.stage.now c.args.this.now c.args.other.now in
+    let agreed = c.args.agreed.now in
+    c.refuse_refresh.ensures.after h k
+    ∙ sym (ap (λ (kind : WideKind). answered s (answers_to (of_kind agreed.context agreed.refresh kind c.args.frame.body.now))) c.in-Refresh.is)

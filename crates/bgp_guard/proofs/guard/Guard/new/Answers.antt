@@ -1,7 +1,7 @@
-use Rattle.bgp_guard.proofs.Prelude.{◌≡◌, length, sym, ap, subst, arith, Waits, Half, absent, half_of, nothing_waits}
+use Rattle.bgp_guard.proofs.Prelude.{◌≡◌, length, sym, ap, subst, arith, WaitsIn, Half, absent, half_of, nothing_waits}
 use Rattle.bgp_guard.proofs.guard.Guard.new.Goals as goal
-use Rattle.bgp_frame.specs.Kind.{plain}
-use Rattle.bgp_frame.specs.steps.AreTypes.{plain-are}
+use Rattle.bgp_guard.specs.Guard.{types}
+use Rattle.bgp_guard.proofs.Types.{types-are}
 
 pub invariant_of-result : goal.invariant_of-result
 invariant_of-result c =
@@ -10,6 +10,6 @@ invariant_of-result c =
       λ up. omega (arith, ap (λ (h : Half). length h.way) outer),
       (
         λ up. omega (arith, ap (λ (h : Half). length h.way) inner),
-        (subst Waits (sym (ap (λ (h : Half). h.held) outer)) (nothing_waits plain plain-are), subst Waits (sym (ap (λ (h : Half). h.held) inner)) (nothing_waits plain plain-are)),
+        (subst (WaitsIn types) (sym (ap (λ (h : Half). h.held) outer)) (nothing_waits types types-are), subst (WaitsIn types) (sym (ap (λ (h : Half). h.held) inner)) (nothing_waits types types-are)),
       ),
     )

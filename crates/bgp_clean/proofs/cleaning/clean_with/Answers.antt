@@ -3,7 +3,7 @@ use Rattle.bgp_clean.proofs.Prelude.{routes_value, Message, Outcome, outcome_val
 use Rattle.std.proofs.Common.{IfOk}
 use Rattle.bgp_msg.specs.declared.outcome_view.OutcomeView.{OutcomeView}
 use Rattle.bgp_clean.proofs.Outcomes.{at_most, open_good, update_can, withdrawal_short, notification_same, keepalive_same}
-use Rattle.bgp_clean.proofs.cleaning.clean.Goals as goal
+use Rattle.bgp_clean.proofs.cleaning.clean_with.Goals as goal
 
 abbrev value : OutcomeView → Outcome
 value v = outcome_value v
@@ -31,7 +31,7 @@ returns-in-Notification-clause-value g c =
     let m = message_in c.args.frame in
     let n = notification_of_view c.in-Notification.field-0 in
     let is = sym c.view_frame.ensures ∙ ap value c.in-Notification.is in
-    subst (λ (o : Outcome). IfOk c.pass_on.result (IsCleaned ctx (cleaned_outcome (has_octet c.args.drops.now) (refuses_in ctx c.args.limits.now) c.args.first (ended_family ctx m) o) (g.O.Output.written c.args.out.now) (g.O.Output.written c.pass_on.new.out)))
+    subst (λ (o : Outcome). IfOk c.pass_on.result (IsCleaned ctx (cleaned_outcome c.args.offers (has_octet c.args.drops.now) (refuses_in ctx c.args.limits.now) c.args.first (ended_family ctx m) o) (g.O.Output.written c.args.out.now) (g.O.Output.written c.pass_on.new.out)))
     (sym is) (c.pass_on.ensures.value (Message.Notification n) (notification_same ctx m c.requires n _ is))
 
 pub returns-in-Keepalive-clause-value : goal.returns-in-Keepalive-clause-value
@@ -40,5 +40,5 @@ returns-in-Keepalive-clause-value g c =
     let m = message_in c.args.frame in
     let passed = c.pass_on-in-Keepalive in
     let is = sym c.view_frame.ensures ∙ ap value c.in-Keepalive.is in
-    subst (λ (o : Outcome). IfOk passed.result (IsCleaned ctx (cleaned_outcome (has_octet c.args.drops.now) (refuses_in ctx c.args.limits.now) c.args.first (ended_family ctx m) o) (g.O.Output.written c.args.out.now) (g.O.Output.written passed.new.out)))
+    subst (λ (o : Outcome). IfOk passed.result (IsCleaned ctx (cleaned_outcome c.args.offers (has_octet c.args.drops.now) (refuses_in ctx c.args.limits.now) c.args.first (ended_family ctx m) o) (g.O.Output.written c.args.out.now) (g.O.Output.written passed.new.out)))
     (sym is) (passed.ensures.value Message.Keepalive (keepalive_same ctx m c.requires _ is))
