@@ -175,7 +175,22 @@ static void check_peer(uint32_t side, uint32_t as_number, uint8_t last)
     WANT(peer.hold == 90 && peer.as4 == 1 && peer.ip4 == 1 && peer.ip6 == 0);
 }
 
-/* Both OPENs and KEEPALIVEs go over. */
+/* Both OPENs, the inner one of which is passed on as it is, and KEEPALIVEs go over. */
+static void answer_open(const char *open)
+{
+    hands_on(OUTER, 1, OUTER_OPEN, 0);
+    want(INNER, 1, CLEAN_OPEN);
+    hands_on(INNER, 1, open, 1);
+    want(OUTER, 1, open);
+    check_peer(OUTER, 65001, 1);
+    check_peer(INNER, 65002, 2);
+    hands_on(OUTER, 4, "", 1);
+    want(INNER, 4, "");
+    hands_on(INNER, 4, "", 1);
+    want(OUTER, 4, "");
+}
+
+/* A new guard, over which both OPENs and KEEPALIVEs go. */
 static void come_up(const uint8_t *pass, size_t count, uint8_t one_way)
 {
     ristulva_peer peer, old;
@@ -183,16 +198,7 @@ static void come_up(const uint8_t *pass, size_t count, uint8_t one_way)
     old = peer;
     begin(pass, count, one_way);
     WANT(ristulva_guard_peer(&guard, OUTER, &peer) == RISTULVA_STATE && memcmp(&peer, &old, sizeof peer) == 0);
-    hands_on(OUTER, 1, OUTER_OPEN, 0);
-    want(INNER, 1, CLEAN_OPEN);
-    hands_on(INNER, 1, INNER_OPEN, 1);
-    want(OUTER, 1, INNER_OPEN);
-    check_peer(OUTER, 65001, 1);
-    check_peer(INNER, 65002, 2);
-    hands_on(OUTER, 4, "", 1);
-    want(INNER, 4, "");
-    hands_on(INNER, 4, "", 1);
-    want(OUTER, 4, "");
+    answer_open(INNER_OPEN);
     check_way(OUTER);
     check_way(INNER);
 }
@@ -201,14 +207,7 @@ static void come_up(const uint8_t *pass, size_t count, uint8_t one_way)
 static void refreshes(void)
 {
     begin((const uint8_t *)"", 0, 0);
-    hands_on(OUTER, 1, OUTER_OPEN, 0);
-    want(INNER, 1, CLEAN_OPEN);
-    hands_on(INNER, 1, ASKED_OPEN, 1);
-    want(OUTER, 1, ASKED_OPEN);
-    hands_on(OUTER, 4, "", 1);
-    want(INNER, 4, "");
-    hands_on(INNER, 4, "", 1);
-    want(OUTER, 4, "");
+    answer_open(ASKED_OPEN);
     hands_on(OUTER, 5, REFRESH, 1);
     want(INNER, 5, REFRESH);
     drops(OUTER, 5, VPN_REFRESH);
