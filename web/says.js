@@ -284,7 +284,7 @@ const WHY_WANTED = { Value: "0 to 2", SegmentCount: "at least 1", SegmentEnd: "a
     External: "none from an external peer", FourOctet: "none where both sides have AS numbers of four octets", Family: "a family that both sides agreed on",
     Unneeded: "none without NLRI", Emptied: "a segment that isn't of a confederation", Cut: "an end inside the attributes", Missing: "one with these routes",
     AsZero: "an AS number above 0" };
-const CODE_WANTED = { 1: ["", "sixteen octets ff", "19 to 4096, and what the type needs", "1 to 4"],
+const CODE_WANTED = { 1: ["", "sixteen octets ff", "19 to 4096, and what the type needs", "1 to 4, or 5 where the receiver offers ROUTE-REFRESH"],
     2: ["a length that fits", "4", "", "an identifier above 0", "2", "", "0, or at least 3"] };
 const SECTION_WANTED = { "RFC 7606, section 3, item g": "one of each type", "RFC 7606, section 7.11": "4 for IPv4, 16 or 32 for IPv6",
     "RFC 7606, section 5.3": "a family, a next hop, and prefixes of at most 32 bits, or 128 of IPv6", "RFC 7606, section 5.2": "routes that can be withdrawn" };

@@ -26,9 +26,9 @@ pub use Rattle.bgp_fields.specs.Prelude.{header_fault, header_place, reset_fault
 pub use Rattle.bgp_fields.specs.declared.field.Fault.{Fault}
 pub use Rattle.bgp_fields.specs.declared.field.Span.{Span}
 pub use Rattle.bgp_text.specs.End.{end_line}
-pub use Rattle.bgp_text.specs.Explained.{explained_lines}
+pub use Rattle.bgp_text.specs.Explained.{explained_lines, explained_refresh}
 pub use Rattle.bgp_text.specs.JsonEnd.{end_json}
-pub use Rattle.bgp_text.specs.JsonFields.{explained_json}
+pub use Rattle.bgp_text.specs.JsonFields.{explained_json, explained_refresh_json}
 pub use Rattle.bgp_text.specs.JsonOutcome.{outcome_json}
 pub use Rattle.bgp_text.specs.JsonRefresh.{refresh_json}
 pub use Rattle.bgp_text.specs.RefreshLine.{refresh_line}

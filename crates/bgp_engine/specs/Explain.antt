@@ -1,6 +1,6 @@
 -- What `explain` prints, and `explain --json`.
 use Rattle.std.specs.Prelude.{ℕ, List, [], Option, None, Ok, Err, if◌then◌else◌}
-use Rattle.bgp_engine.specs.Below.{Agreed, Context, End, Fault, Outcome, Refresh, end_json, end_line, explained_json, explained_lines, plain, refresh_json, refresh_line}
+use Rattle.bgp_engine.specs.Below.{Agreed, Context, End, Fault, Outcome, Refresh, end_json, end_line, explained_json, explained_lines, explained_refresh, explained_refresh_json, plain}
 use Rattle.bgp_msg.specs.declared.outcome.Outcome.TheVariants as outcome
 use Rattle.bgp_engine.specs.Heard.{Heard, fault_in, heard_in}
 use Rattle.bgp_engine.specs.OnlyFaults.{Chosen}
@@ -11,19 +11,20 @@ use Rattle.bgp_engine.specs.Show.{class_of}
 use Rattle.bgp_engine.specs.Tally.{no_tally}
 use Rattle.bgp_engine.specs.Wide.{wide_rules}
 
--- how a message in a context is printed: by its offset, its length, its octets, what is at fault, and its outcome; how a ROUTE-REFRESH is; and how the end is
+-- how a message in a context is printed: by its offset, its length, its octets, what is at fault, and its outcome; how a ROUTE-REFRESH that is accepted is:
+-- by the same, but for fault and outcome, and what it says; and how the end is
 pub record Form : Type 0 where
   pub message : Context → ℕ → ℕ → List ℕ → Option Fault → Outcome → List ℕ
-  pub refresh : ℕ → ℕ → Refresh → List ℕ
+  pub refresh : Context → ℕ → ℕ → List ℕ → Refresh → List ℕ
   pub end : End → List ℕ
 
 -- in lines of text: what `show` prints, and a line for each field
 abbrev pub in_lines : Form
-in_lines = record { message = explained_lines; refresh = refresh_line; end = end_line }
+in_lines = record { message = explained_lines; refresh = explained_refresh; end = end_line }
 
 -- an object of JSON on a line: what `show --json` prints, with the fields
 abbrev pub in_json : Form
-in_json = record { message = explained_json; refresh = refresh_json; end = end_json }
+in_json = record { message = explained_json; refresh = explained_refresh_json; end = end_json }
 
 -- the text that is printed for a message of this length, with the octets marked for which it is answered by a reset
 abbrev pub heard_text : Form → Chosen → Context → ℕ → ℕ → List ℕ → Heard → List ℕ
@@ -32,7 +33,7 @@ heard_text form printed ctx place len octets h =
 
 -- that of a ROUTE-REFRESH, or of the reset by one
 abbrev pub refresh_text : Form → Chosen → Context → ℕ → ℕ → List ℕ → Refreshed → List ℕ
-refresh_text form printed ctx place len octets (Ok r) = if printed.refresh r then form.refresh place len r else []
+refresh_text form printed ctx place len octets (Ok r) = if printed.refresh r then form.refresh ctx place len octets r else []
 refresh_text form printed ctx place len octets (Err n) =
     if printed.outcome (outcome.Reset n) then form.message ctx place len octets None (outcome.Reset n) else []
 

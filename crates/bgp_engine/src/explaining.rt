@@ -1,7 +1,7 @@
 //! The page of `explain`, in each form.
 
 ghost use Rattle.std.specs.Prelude.{◌≡◌, ◌+◌, ◌≤◌, ◌++◌, [], Ok, Err, length, IfOk, OnOk, if◌then◌else◌};
-ghost use Rattle.bgp_engine.specs.Below.{string_bytes, octets_of, IsLength, message_in};
+ghost use Rattle.bgp_engine.specs.Below.{string_bytes, octets_of, IsLength, message_in, refresh_header};
 ghost use Rattle.bgp_engine.specs.Below.{of_fault, out_of, outcome_value};
 ghost use Rattle.bgp_engine.specs.steps.PageSteps.{WritesHeard};
 ghost use Rattle.bgp_engine.specs.Explain.{heard_text};
@@ -60,6 +60,15 @@ fn put_octets(frame: Frame<'_>, octets: &mut Vec<u8>) -> Result<(), AllocError>
     octets.clear();
     octets.extend_from_slice(&head(frame.kind, frame.body.len() as u16))?;
     octets.extend_from_slice(frame.body)
+}
+
+/// The octets of a whole ROUTE-REFRESH of this length.
+fn put_refresh_octets(len: u16, body: &[u8], octets: &mut Vec<u8>) -> Result<(), AllocError>
+    ensures { OnOk result (octets.new.items ≡ refresh_header len ++ body.now) }
+{
+    octets.clear();
+    octets.extend_from_slice(&refresh_header(len))?;
+    octets.extend_from_slice(body)
 }
 
 impl<F: FieldForm, C: Choice> ExplainPage<F, C> {
@@ -163,13 +172,22 @@ impl<F: FieldForm, C: Choice> Page for ExplainPage<F, C> {
         &mut self,
         place: u64,
         len: u16,
-        _body: &[u8],
+        body: &[u8],
         refresh: &RefreshView<'_>,
     ) -> Result<(), AllocError> {
         if !self.choice.prints_refresh(refresh) {
             return Ok(());
         }
-        self.form.put_request(&mut self.text, place, len, refresh)
+        put_refresh_octets(len, body, &mut self.octets)?;
+        self.form.put_refresh(
+            self.alloc,
+            &mut self.text,
+            &self.ctx,
+            place,
+            len,
+            self.octets.as_slice(),
+            refresh,
+        )
     }
 
     fn refuse(
@@ -179,9 +197,7 @@ impl<F: FieldForm, C: Choice> Page for ExplainPage<F, C> {
         body: &[u8],
         why: &Notification,
     ) -> Result<(), AllocError> {
-        self.octets.clear();
-        self.octets.extend_from_slice(&refresh_header(len))?;
-        self.octets.extend_from_slice(body)?;
+        put_refresh_octets(len, body, &mut self.octets)?;
         self.put(place, len, None, &OutcomeView::Reset(view_of(why)))
     }
 

@@ -10,7 +10,8 @@ use bgp_msg::OutcomeView;
 use bgp_open::Context;
 use bgp_refresh::RefreshView;
 use bgp_text::{
-    put_end, put_end_json, put_explained, put_explained_json, put_refresh, put_refresh_json,
+    put_end, put_end_json, put_explained, put_explained_json, put_explained_refresh,
+    put_explained_refresh_json,
 };
 use std::alloc::{AllocError, Global};
 
@@ -38,15 +39,19 @@ pub(crate) trait FieldForm {
         requires { length octets.now ≤ 4096 }
         ensures { OnOk result (string_bytes text.new ≡ string_bytes text.old ++ form.message ctx.now place len octets.now fault (outcome_value outcome.now)) };
 
-    /// Adds the text of a ROUTE-REFRESH.
-    fn put_request(
+    /// Adds the text of a ROUTE-REFRESH that is accepted, which has these octets.
+    fn put_refresh(
         &self,
+        alloc: Global,
         text: &mut String,
+        ctx: &Context,
         place: u64,
         len: u16,
+        octets: &[u8],
         refresh: &RefreshView<'_>,
     ) -> Result<(), AllocError>
-        ensures { OnOk result (string_bytes text.new ≡ string_bytes text.old ++ form.refresh place len (refresh_value refresh.now)) };
+        requires { length octets.now ≤ 4096 }
+        ensures { OnOk result (string_bytes text.new ≡ string_bytes text.old ++ form.refresh ctx.now place len octets.now (refresh_value refresh.now)) };
 
     /// Adds the text of the end.
     fn put_last(&self, text: &mut String, end: End) -> Result<(), AllocError>
@@ -72,14 +77,17 @@ impl FieldForm for Lines {
         put_explained(alloc, text, ctx, place, len, octets, fault, outcome)
     }
 
-    fn put_request(
+    fn put_refresh(
         &self,
+        _alloc: Global,
         text: &mut String,
+        ctx: &Context,
         place: u64,
         len: u16,
+        octets: &[u8],
         refresh: &RefreshView<'_>,
     ) -> Result<(), AllocError> {
-        put_refresh(text, place, len, refresh)
+        put_explained_refresh(text, ctx, place, len, octets, refresh)
     }
 
     fn put_last(&self, text: &mut String, end: End) -> Result<(), AllocError> {
@@ -106,14 +114,17 @@ impl FieldForm for Json {
         put_explained_json(alloc, text, ctx, place, len, octets, fault, outcome)
     }
 
-    fn put_request(
+    fn put_refresh(
         &self,
+        alloc: Global,
         text: &mut String,
+        ctx: &Context,
         place: u64,
         len: u16,
+        octets: &[u8],
         refresh: &RefreshView<'_>,
     ) -> Result<(), AllocError> {
-        put_refresh_json(text, place, len, refresh)
+        put_explained_refresh_json(alloc, text, ctx, place, len, octets, refresh)
     }
 
     fn put_last(&self, text: &mut String, end: End) -> Result<(), AllocError> {

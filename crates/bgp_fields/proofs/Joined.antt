@@ -1,7 +1,7 @@
 -- The fields of a message, joined, are the message.
 use Rattle.bgp_fields.proofs.Prelude.{◌≡◌, ℕ, ◌+◌, List, [], ◌∷◌, ◌++◌, length, take, drop, Option, None, refl, sym, ap, ◌∙◌, arith, flat_map}
 use Rattle.bgp_fields.proofs.Prelude.{take-append-drop, drop_all, flat_map-cons, drop-drop, Context, Field, Group, Unread, MessagePart, SectionPart}
-use Rattle.bgp_fields.proofs.Prelude.{ValuePart, no_fields, value_fields, section_fields, message_fields, fields_of, Tiles, octets_in, AreTheOctets}
+use Rattle.bgp_fields.proofs.Prelude.{ValuePart, no_fields, value_fields, section_fields, message_fields, fields_of, refresh_fields, Tiles, octets_in, AreTheOctets}
 use Rattle.bgp_fields.proofs.Prelude.{value_plan, section_plan, message_plan}
 use Rattle.bgp_fields.proofs.Tilings.{Tiles-to, walk-tiles}
 
@@ -30,7 +30,14 @@ message-tiles : (ctx : Context) (part : MessagePart) (at : ℕ) (group : Option 
     → Tiles at (at + length b) (message_fields ctx part at group b)
 message-tiles ctx = walk-tiles SectionPart MessagePart (MessagePart.All Unread) message_plan (section_fields ctx) (section-tiles ctx)
 
+fields-from : (ctx : Context) (part : MessagePart) (octets : List ℕ) → AreTheOctets octets (message_fields ctx part 0 None octets)
+fields-from ctx part octets =
+    let fields = message_fields ctx part 0 None octets in
+    let tiles : Tiles 0 (length octets) fields = Tiles-to 0 (0 + length octets) (length octets) fields (omega arith) (message-tiles ctx part 0 None octets) in
+    record { placed = tiles; joined = joined octets 0 fields tiles }
+
 pub fields-octets : (ctx : Context) (octets : List ℕ) → AreTheOctets octets (fields_of ctx octets)
-fields-octets ctx octets =
-    let tiles : Tiles 0 (length octets) (fields_of ctx octets) = Tiles-to 0 (0 + length octets) (length octets) (fields_of ctx octets) (omega arith) (message-tiles ctx MessagePart.Marker 0 None octets) in
-    record { placed = tiles; joined = joined octets 0 (fields_of ctx octets) tiles }
+fields-octets ctx = fields-from ctx MessagePart.Marker
+
+pub refresh-octets : (ctx : Context) (octets : List ℕ) → AreTheOctets octets (refresh_fields ctx octets)
+refresh-octets ctx = fields-from ctx MessagePart.RefreshMarker

@@ -5,6 +5,7 @@ pub mod Steps
 pub mod Listings
 pub mod Tilings
 pub mod Joined
+pub mod Refreshed
 pub mod Readable
 pub mod ReadableValues
 pub mod ReadableRoutes

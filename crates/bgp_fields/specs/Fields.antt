@@ -29,3 +29,7 @@ message_fields ctx = walk (MessagePart.All Unread) message_plan (section_fields 
 -- the fields of a whole message, or of a header with a fault, in a context
 abbrev pub fields_of : Context → List ℕ → List Field
 fields_of ctx octets = message_fields ctx MessagePart.Marker 0 None octets
+
+-- the fields of a whole ROUTE-REFRESH that is accepted
+abbrev pub refresh_fields : Context → List ℕ → List Field
+refresh_fields ctx octets = message_fields ctx MessagePart.RefreshMarker 0 None octets

@@ -1,4 +1,4 @@
--- The next field of a message (RFC 4271, section 4; RFC 4760, 5492, 6793 and 8092): a row for each part.
+-- The next field of a message (RFC 4271, section 4; RFC 2918, 4760, 5492, 6793, 7313 and 8092): a row for each part.
 use Rattle.std.specs.Prelude.{ℕ, ◌+◌, ◌-◌, ◌*◌, Bool, true, false, ◌||◌, ◌&&◌, ◌==◌, nat_le, nat_lt, List, [], ◌∷◌, length, slice_index, Option, None, Some, if◌then◌else◌}
 use Rattle.std.specs.Int.{w16, from_be_bytes}
 use Rattle.bgp_numbers.specs.declared.attribute.TheConstants.{ORIGIN, AS_PATH, NEXT_HOP, MULTI_EXIT_DISC, LOCAL_PREF, ATOMIC_AGGREGATE, AGGREGATOR, COMMUNITIES, MP_REACH_NLRI, MP_UNREACH_NLRI, AS4_PATH, AS4_AGGREGATOR, LARGE_COMMUNITY}
@@ -194,6 +194,10 @@ nothing_in_section = SectionPart.All FieldKind.Unread
 abbrev pub alone : FieldKind → ℕ → MessagePart → Plan SectionPart MessagePart
 alone kind n next = leaf nothing_in_section kind n next
 
+-- the length of a ROUTE-REFRESH's AFI, which begins the body: 0 where that has fewer than four octets
+abbrev pub afi_len : List ℕ → ℕ
+afi_len b = if nat_lt (length b) 4 then 0 else 2
+
 -- the next field of a message
 abbrev pub message_plan : MessagePart → List ℕ → Plan SectionPart MessagePart
 message_plan MessagePart.Marker b = alone FieldKind.Marker 16 MessagePart.Length
@@ -209,4 +213,10 @@ message_plan MessagePart.AttributesLength b = behind FieldKind.AttributesLength 
 message_plan MessagePart.Nlri b = alone FieldKind.NlriPrefix (prefix_len 4 (first_of b)) MessagePart.Nlri
 message_plan MessagePart.ErrorCode b = alone FieldKind.ErrorCode 1 MessagePart.ErrorSubcode
 message_plan MessagePart.ErrorSubcode b = alone FieldKind.ErrorSubcode 1 (MessagePart.All FieldKind.Data)
+message_plan MessagePart.RefreshMarker b = alone FieldKind.Marker 16 MessagePart.RefreshLength
+message_plan MessagePart.RefreshLength b = alone FieldKind.MessageLength 2 MessagePart.RefreshType
+message_plan MessagePart.RefreshType b = alone FieldKind.MessageType 1 MessagePart.RefreshAfi
+message_plan MessagePart.RefreshAfi b = alone FieldKind.Afi (afi_len b) MessagePart.RefreshSubtype
+message_plan MessagePart.RefreshSubtype b = alone FieldKind.Subtype 1 MessagePart.RefreshSafi
+message_plan MessagePart.RefreshSafi b = alone FieldKind.Safi 1 (MessagePart.All FieldKind.Unread)
 message_plan (MessagePart.All kind) b = alone kind (length b) (MessagePart.All FieldKind.Unread)

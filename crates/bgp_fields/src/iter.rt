@@ -33,15 +33,15 @@ pub struct FieldIter<'a> {
 }
 
 impl<'a> FieldIter<'a> {
-    ghost use Rattle.bgp_fields.specs.Fields.{fields_of};
+    ghost use Rattle.std.specs.Prelude.{None};
+    ghost use Rattle.bgp_fields.specs.Fields.{fields_of, message_fields, refresh_fields};
     ghost use Rattle.bgp_fields.specs.FieldIter.{fields_left};
 
-    /// The fields of a whole message, in a context: those of the header, then those of the body by its type. For a header with a fault, `octets` are
-    /// its 19.
+    /// The fields of octets from a part of a message on.
     #[tactic(auto, unfolding(crate::specs::Walk::walk))]
-    pub fn new(ctx: &Context, octets: &'a [u8]) -> FieldIter<'a>
+    fn begin(ctx: &Context, part: MessagePart, octets: &'a [u8]) -> FieldIter<'a>
         requires { length octets.now ≤ 4096 }
-        ensures { fields_left result ≡ fields_of ctx.now octets.now }
+        ensures { fields_left result ≡ message_fields ctx.now part 0 None octets.now }
     {
         FieldIter {
             ctx: *ctx,
@@ -52,9 +52,27 @@ impl<'a> FieldIter<'a> {
             section: SectionPart::All(FieldKind::Unread),
             section_group: None,
             section_octets: &[],
-            message: MessagePart::Marker,
+            message: part,
             message_octets: octets,
         }
+    }
+
+    /// The fields of a whole message, in a context: those of the header, then those of the body by its type. For a header with a fault, `octets` are
+    /// its 19. The body of a ROUTE-REFRESH is one unread field, as where it is refused.
+    pub fn new(ctx: &Context, octets: &'a [u8]) -> FieldIter<'a>
+        requires { length octets.now ≤ 4096 }
+        ensures { fields_left result ≡ fields_of ctx.now octets.now }
+    {
+        FieldIter::begin(ctx, MessagePart::Marker, octets)
+    }
+
+    /// The fields of a whole ROUTE-REFRESH that is accepted: those of the header, AFI, Message Subtype and SAFI (RFC 2918, section 3; RFC 7313, section
+    /// 3.2), and the octets after these as one unread field. So is a body of fewer than four octets.
+    pub fn of_refresh(ctx: &Context, octets: &'a [u8]) -> FieldIter<'a>
+        requires { length octets.now ≤ 4096 }
+        ensures { fields_left result ≡ refresh_fields ctx.now octets.now }
+    {
+        FieldIter::begin(ctx, MessagePart::RefreshMarker, octets)
     }
 
     /// The next field of the value that was begun.

@@ -29,7 +29,7 @@ pub enum FieldKind {
     CapabilityLength,
     /// The value of a capability that isn't recognised.
     CapabilityValue,
-    /// An Address Family Identifier: two octets (RFC 4760, sections 3, 4 and 8).
+    /// An Address Family Identifier: two octets (RFC 4760, sections 3, 4 and 8; RFC 2918, section 3).
     Afi,
     /// A Subsequent Address Family Identifier: one octet.
     Safi,
@@ -89,6 +89,9 @@ pub enum FieldKind {
     ErrorSubcode,
     /// A NOTIFICATION's data.
     Data,
-    /// What can't be read as the field expected, up to the end of what encloses it: the capability, parameter, attribute, field or message.
+    /// A ROUTE-REFRESH's Message Subtype: one octet (RFC 7313, section 3.2), the reserved octet of RFC 2918, section 3.
+    Subtype,
+    /// What can't be read as the field expected, up to the end of what encloses it: the capability, parameter, attribute, field or message. Also what
+    /// follows the SAFI of a ROUTE-REFRESH.
     Unread,
 }

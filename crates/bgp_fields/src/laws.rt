@@ -1,6 +1,6 @@
 //! Laws of the fields of a message. Each is the contract of a function that does nothing.
 
-ghost use Rattle.std.specs.Prelude.{◌≡◌, ◌≤◌, ℕ, List, [], Err, Some, length};
+ghost use Rattle.std.specs.Prelude.{◌≡◌, ◌≤◌, ◌++◌, ℕ, List, [], Err, Some, length, drop};
 ghost use Rattle.bgp_wire.specs.Prelude.{AreOctets};
 ghost use Rattle.bgp_frame.specs.Frame as frame;
 ghost use Rattle.bgp_frame.specs.Prelude.{IsFrame, head_of};
@@ -14,12 +14,23 @@ ghost use Rattle.bgp_msg.specs.declared.message.Message.{Message};
 ghost use Rattle.bgp_msg.specs.declared.outcome.Outcome.TheVariants.{Reset, Took, Withdraw};
 ghost use Rattle.bgp_msg.specs.Prelude.{out_of};
 ghost use Rattle.bgp_msg.specs.declared.message.Message.TheVariants as message;
-ghost use Rattle.bgp_fields.specs.Prelude.{fields_of, AllRead, AreTheOctets, ArePlaced, HasPlace, header_place, reset_place, ShowsRoutes, ShowsWithdrawal};
+ghost use Rattle.bgp_fields.specs.Prelude.{fields_of, AllRead, AreTheOctets, ArePlaced, HasPlace, header_place, refresh_fields, refresh_rest, refresh_row, reset_place, ShowsRoutes, ShowsWithdrawal};
 
 /// The fields of a message are its octets, whatever they are: each field begins where the one before it ends and has at least one octet; none is
 /// returned twice and none left out.
 pub fn the_fields_are_the_message()
     ensures { (ctx : Context) (octets : List ℕ) → AreTheOctets octets (fields_of ctx octets) }
+{}
+
+/// The fields of a ROUTE-REFRESH that is accepted are its octets in the same way.
+pub fn the_fields_of_a_refresh_are_its_octets()
+    ensures { (ctx : Context) (octets : List ℕ) → AreTheOctets octets (refresh_fields ctx octets) }
+{}
+
+/// The fields of a ROUTE-REFRESH that is accepted, which has at least four octets after its header: those of the header, AFI, Message Subtype and SAFI,
+/// and one of all octets after these, if there are any.
+pub fn the_fields_of_a_refresh()
+    ensures { (ctx : Context) (octets : List ℕ) → 23 ≤ length octets → refresh_fields ctx octets ≡ refresh_row ++ refresh_rest (drop 23 octets) }
 {}
 
 /// Where a message is accepted without a note, each field of it was read: none is `Unread`. Segments of confederations that AS4_PATH drops, and

@@ -3,7 +3,7 @@
 ghost use Rattle.std.specs.Prelude.{◌≡◌};
 ghost use Rattle.bgp_frame.specs.Prelude.{kind_of};
 ghost use Rattle.bgp_fields.specs.declared.kind.FieldKind.TheVariants.{ParametersLength, Unread};
-ghost use Rattle.bgp_fields.specs.Prelude.{alone, behind, body_part, message_plan, message_planned};
+ghost use Rattle.bgp_fields.specs.Prelude.{afi_len, alone, behind, body_part, message_plan, message_planned};
 ghost use Rattle.bgp_fields.specs.declared.part.MessagePart.TheVariants as message;
 ghost use Rattle.bgp_fields.specs.declared.part.SectionPart.TheVariants as section;
 
@@ -67,6 +67,13 @@ fn parameters_length(len: u8) -> MessagePlan
     )
 }
 
+/// The length of the AFI of a ROUTE-REFRESH with this body: 0 where that has fewer than four octets.
+fn afi_len(body: &[u8]) -> usize
+    ensures { result ≡ afi_len body.now }
+{
+    if body.len() < 4 { 0 } else { 2 }
+}
+
 /// The next field of these octets.
 #[inline(always)]
 pub(crate) fn message_plan(part: MessagePart, octets: &[u8]) -> MessagePlan
@@ -103,6 +110,16 @@ pub(crate) fn message_plan(part: MessagePart, octets: &[u8]) -> MessagePlan
             1,
             MessagePart::All(FieldKind::Data),
         ),
+        MessagePart::RefreshMarker => alone(FieldKind::Marker, 16, MessagePart::RefreshLength),
+        MessagePart::RefreshLength => alone(FieldKind::MessageLength, 2, MessagePart::RefreshType),
+        MessagePart::RefreshType => alone(FieldKind::MessageType, 1, MessagePart::RefreshAfi),
+        MessagePart::RefreshAfi => alone(
+            FieldKind::Afi,
+            afi_len(octets),
+            MessagePart::RefreshSubtype,
+        ),
+        MessagePart::RefreshSubtype => alone(FieldKind::Subtype, 1, MessagePart::RefreshSafi),
+        MessagePart::RefreshSafi => alone(FieldKind::Safi, 1, STUCK),
         MessagePart::All(kind) => alone(kind, octets.len(), STUCK),
     }
 }

@@ -22,6 +22,13 @@ pub(crate) enum MessagePart {
     /// A NOTIFICATION's body (RFC 4271, section 4.5).
     ErrorCode,
     ErrorSubcode,
+    /// A ROUTE-REFRESH that is accepted: its header, and its body (RFC 2918, section 3; RFC 7313, section 3.2).
+    RefreshMarker,
+    RefreshLength,
+    RefreshType,
+    RefreshAfi,
+    RefreshSubtype,
+    RefreshSafi,
     /// One field of this kind, up to the end.
     All(FieldKind),
 }

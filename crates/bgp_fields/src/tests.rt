@@ -75,6 +75,12 @@ const ACCEPTED: [u8; 27] = [
     24, 192, 0, 2, 0, 0,
 ];
 
+/// A ROUTE-REFRESH that ends a refresh of IPv6 unicast (RFC 7313, section 3.2), with two octets after it.
+const REFRESH: [u8; 25] = [
+    255, 255, 255, 255, 255, 255, 255, 255, 255, 255, 255, 255, 255, 255, 255, 255, 0, 25, 5, 0, 2,
+    2, 1, 7, 7,
+];
+
 #[test]
 fn tells_an_update(rt: HostRuntime) {
     let want = [
@@ -114,6 +120,40 @@ fn tells_an_update(rt: HostRuntime) {
         }
     }
     assert!(rt; fields.next().is_none(), "a field more");
+}
+
+/// Whether fields follow the header of a message, and are these: offset, length and kind.
+fn follow_the_header(fields: FieldIter<'_>, want: &[(u16, u16, FieldKind)]) -> bool {
+    let mut left = fields.skip(3);
+    for (at, len, kind) in want {
+        match left.next() {
+            None => return false,
+            Some(field) => {
+                if field.at != *at || field.len != *len || field.kind != *kind {
+                    return false;
+                }
+            }
+        }
+    }
+    left.next().is_none()
+}
+
+#[test]
+fn tells_a_refresh(rt: HostRuntime) {
+    let row = [
+        (19, 2, FieldKind::Afi),
+        (21, 1, FieldKind::Subtype),
+        (22, 1, FieldKind::Safi),
+        (23, 2, FieldKind::Unread),
+    ];
+    let whole = FieldIter::of_refresh(&TWO, &REFRESH);
+    assert!(rt; follow_the_header(whole, &row));
+    let plain = FieldIter::of_refresh(&TWO, &REFRESH[..23]);
+    assert!(rt; follow_the_header(plain, &row[..3]));
+    let short = FieldIter::of_refresh(&TWO, &REFRESH[..22]);
+    assert!(rt; follow_the_header(short, &[(19, 3, FieldKind::Unread)]));
+    let refused = FieldIter::new(&TWO, &REFRESH);
+    assert!(rt; follow_the_header(refused, &[(19, 6, FieldKind::Unread)]));
 }
 
 #[test]

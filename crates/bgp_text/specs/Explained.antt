@@ -1,9 +1,10 @@
 -- What `explain` prints for a message: what `show` prints, and its fields.
 use Rattle.std.specs.Prelude.{ℕ, nat_lt, List, [], ◌∷◌, ◌++◌, length, take, codes, Option, if◌then◌else◌}
-use Rattle.bgp_text.specs.Below.{flat_map, decimal, Context, Notification, Outcome, Fault, fields_of}
+use Rattle.bgp_text.specs.Below.{flat_map, decimal, Context, Notification, Outcome, Fault, Refresh, fields_of, refresh_fields}
 use Rattle.bgp_text.specs.FieldLines.{noted_lines, faulty_line}
 use Rattle.bgp_text.specs.Info.{notification_text}
 use Rattle.bgp_text.specs.Outcome.{outcome_lines, reset_name}
+use Rattle.bgp_text.specs.RefreshLine.{refresh_line}
 
 -- a NOTIFICATION with the first 64 octets of its data
 abbrev pub shortened : Notification → Notification
@@ -34,3 +35,7 @@ explained_fields ctx message fault (Outcome.Reset n) = flat_map (faulty_line mes
 -- what `show` prints for a message at an offset in the stream and of this length, 0 for a header's fault, and the fields of its octets
 abbrev pub explained_lines : Context → ℕ → ℕ → List ℕ → Option Fault → Outcome → List ℕ
 explained_lines ctx place len octets fault o = heading_lines place len o ++ explained_fields ctx octets fault o
+
+-- what `show` prints for a ROUTE-REFRESH that is accepted, and the fields of its octets
+abbrev pub explained_refresh : Context → ℕ → ℕ → List ℕ → Refresh → List ℕ
+explained_refresh ctx place len octets r = refresh_line place len r ++ noted_lines octets 0 [] (refresh_fields ctx octets)

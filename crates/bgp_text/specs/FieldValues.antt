@@ -6,6 +6,7 @@ use Rattle.bgp_text.specs.Below.{attribute_name, origin_name, segment_name, capa
 use Rattle.std.specs.Int.{w16, w32, from_be_bytes}
 use Rattle.bgp_names.specs.Families.{afi_name, safi_name}
 use Rattle.bgp_names.specs.Messages.{message_name}
+use Rattle.bgp_names.specs.Names.{named}
 use Rattle.bgp_text.specs.CommunityLines.{community_name, community_text, large_text}
 use Rattle.bgp_text.specs.Escape.{escaped_string}
 use Rattle.bgp_text.specs.JsonAddress.{ip6_text}
@@ -55,7 +56,16 @@ is_number FieldKind.Med = true
 is_number FieldKind.LocalPref = true
 is_number FieldKind.NextHopLength = true
 is_number FieldKind.ErrorCode = true
+is_number FieldKind.Subtype = true
 is_number _ = false
+
+-- the name in the registry for a ROUTE-REFRESH's subtype (RFC 7313, section 6)
+unfoldable pub subtype_name : ℕ → List ℕ
+subtype_name n = named (
+    (0, codes "Route-Refresh") ∷ (
+    (1, codes "BoRR") ∷ (
+    (2, codes "EoRR") ∷ (
+    (255, codes "Reserved") ∷ [])))) n
 
 -- the name in the registries for a field of one octet
 abbrev pub octet_name : FieldKind → ℕ → List ℕ
@@ -67,6 +77,7 @@ octet_name FieldKind.AttributeType n = attribute_name n
 octet_name FieldKind.Origin n = origin_name n
 octet_name FieldKind.SegmentType n = segment_name n
 octet_name FieldKind.ErrorCode n = error_name n
+octet_name FieldKind.Subtype n = subtype_name n
 octet_name _ n = []
 
 -- the name for one of two octets

@@ -1,12 +1,13 @@
 -- What `explain --json` prints for a message: the object that `show --json` prints, with its fields at the end.
 use Rattle.std.specs.Prelude.{ℕ, ◌==◌, ◌||◌, Bool, true, false, List, [], ◌∷◌, ◌++◌, map, codes, Option, None, Some, option_map, if◌then◌else◌}
-use Rattle.bgp_text.specs.Below.{decimal, Context, Note, Outcome, Fault, Field, Span, fields_of, octets_in}
+use Rattle.bgp_text.specs.Below.{decimal, Context, Note, Outcome, Fault, Field, Refresh, Span, fields_of, octets_in, refresh_fields}
 use Rattle.bgp_text.specs.declared.told.Told.{Told}
 use Rattle.bgp_text.specs.declared.told.Wrong.{Wrong}
 use Rattle.bgp_text.specs.FieldLines.{field_said, note_reason, reset_reason, overlaps, holds}
 use Rattle.bgp_text.specs.FieldNames.{field_name}
 use Rattle.bgp_text.specs.Json.{quoted, octets_json, boolean, member, listed, line_end, where_said}
 use Rattle.bgp_text.specs.JsonOutcome.{outcome_members}
+use Rattle.bgp_text.specs.JsonRefresh.{refresh_members}
 use Rattle.bgp_text.specs.Reasons.{is_at, is_in, is_of, note_place}
 
 -- ---- what is reported at each field: a mark, and what is wrong there
@@ -107,3 +108,7 @@ span_of fault = option_map (λ f. f.span) fault
 -- octets
 abbrev pub explained_json : Context → ℕ → ℕ → List ℕ → Option Fault → Outcome → List ℕ
 explained_json ctx place len octets fault o = outcome_members place len (span_of fault) o ++ (explained_members ctx octets fault o ++ line_end)
+
+-- the line of a ROUTE-REFRESH that is accepted: what `show --json` prints, and the fields of its octets
+abbrev pub explained_refresh_json : Context → ℕ → ℕ → List ℕ → Refresh → List ℕ
+explained_refresh_json ctx place len octets r = refresh_members place len r ++ (noted_members octets [] (refresh_fields ctx octets) ++ line_end)

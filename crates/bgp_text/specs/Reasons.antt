@@ -61,7 +61,7 @@ unfoldable pub header_wanted : ℕ → List ℕ
 header_wanted subcode = named (
     (1, codes "sixteen octets ff") ∷ (
     (2, codes "19 to 4096, and what the type needs") ∷ (
-    (3, codes "1 to 4") ∷ []))) subcode
+    (3, codes "1 to 4, or 5 where the receiver offers ROUTE-REFRESH") ∷ []))) subcode
 
 -- of an OPEN
 unfoldable pub open_wanted : ℕ → List ℕ

@@ -1,18 +1,20 @@
 //! What `explain` prints for a message.
 
 ghost use Rattle.std.specs.Prelude.{◌≡◌, ◌≤◌, ◌++◌, length, OnOk};
-ghost use Rattle.bgp_text.specs.Below.{notification_of_view, string_bytes, outcome_value};
-ghost use Rattle.bgp_text.specs.Explained.{count_text, explained_fields, explained_lines, heading_lines, short_reset_line};
+ghost use Rattle.bgp_text.specs.Below.{notification_of_view, string_bytes, outcome_value, refresh_value};
+ghost use Rattle.bgp_text.specs.Explained.{count_text, explained_fields, explained_lines, explained_refresh, heading_lines, short_reset_line};
 
 use crate::field_lines::{put_faulty_fields, put_noted_fields, put_plain_fields};
 use crate::field_values::part;
 use crate::info::told_text;
 use crate::outcome_lines::{put_viewed_outcome, reset_name};
+use crate::refresh_line::put_refresh;
 use crate::short::{Decimal, put_one};
 use bgp_fields::{Fault, FieldIter};
 use bgp_frame::NotificationView;
 use bgp_msg::OutcomeView;
 use bgp_open::Context;
+use bgp_refresh::RefreshView;
 use std::alloc::{AllocError, Global};
 
 /// The greatest number of octets printed of a reset's data.
@@ -115,4 +117,24 @@ pub fn put_explained(
 {
     put_heading(alloc, text, place, len, outcome)?;
     put_fields(text, ctx, octets, fault, outcome)
+}
+
+/// Prints as [`put_refresh`](crate::put_refresh) does a ROUTE-REFRESH of this length that is accepted, at its offset in the stream. Then a line follows
+/// for each field of its octets, as [`put_explained`] prints it.
+///
+/// # Errors
+/// `AllocError` where an allocation failed.
+pub fn put_explained_refresh(
+    text: &mut String,
+    ctx: &Context,
+    place: u64,
+    len: u16,
+    octets: &[u8],
+    refresh: &RefreshView<'_>,
+) -> Result<(), AllocError>
+    requires { length octets.now ≤ 4096 }
+    ensures { OnOk result (string_bytes text.new ≡ string_bytes text.old ++ explained_refresh ctx.now place len octets.now (refresh_value refresh.now)) }
+{
+    put_refresh(text, place, len, refresh)?;
+    put_plain_fields(text, octets, FieldIter::of_refresh(ctx, octets))
 }

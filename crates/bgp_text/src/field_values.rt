@@ -4,7 +4,7 @@ ghost use Rattle.std.specs.Prelude.{◌≡◌, ◌+◌, ◌≤◌, ◌++◌, cod
 ghost use Rattle.bgp_text.specs.Below.{flat_map, string_bytes, subcode_name};
 ghost use Rattle.bgp_text.specs.JsonAddress.{ip6_text};
 ghost use Rattle.bgp_text.specs.Shutdown.{shutdown_text};
-ghost use Rattle.bgp_text.specs.FieldValues.{number_in, spaced, numbered, is_number, octet_name, pair_name, number_name, address_text, prefix6_text, prefixes4_text, prefixes6_text, flags_text, named_community, large_value, code_in, subcode_in, said_text, other_text, value_text};
+ghost use Rattle.bgp_text.specs.FieldValues.{number_in, spaced, numbered, is_number, subtype_name, octet_name, pair_name, number_name, address_text, prefix6_text, prefixes4_text, prefixes6_text, flags_text, named_community, large_value, code_in, subcode_in, said_text, other_text, value_text};
 
 use crate::addresses;
 use crate::community_lines::community_name;
@@ -92,8 +92,23 @@ fn is_number(kind: FieldKind) -> bool
         | FieldKind::Med
         | FieldKind::LocalPref
         | FieldKind::NextHopLength
-        | FieldKind::ErrorCode => true,
+        | FieldKind::ErrorCode
+        | FieldKind::Subtype => true,
         _ => false,
+    }
+}
+
+/// The name in the registry for a ROUTE-REFRESH's subtype.
+#[tactic(auto, unfolding(crate::specs::FieldValues::subtype_name))]
+fn subtype_name(number: u8) -> &'static str
+    ensures { result.now ≡ subtype_name number }
+{
+    match number {
+        0 => "Route-Refresh",
+        1 => "BoRR",
+        2 => "EoRR",
+        255 => "Reserved",
+        _ => "",
     }
 }
 
@@ -110,6 +125,7 @@ fn octet_name(kind: FieldKind, number: u8) -> &'static str
         FieldKind::Origin => origin_name(number),
         FieldKind::SegmentType => segment_name(number),
         FieldKind::ErrorCode => error_name(number),
+        FieldKind::Subtype => subtype_name(number),
         _ => "",
     }
 }

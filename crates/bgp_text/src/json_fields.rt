@@ -1,10 +1,10 @@
 //! What `explain --json` prints for a message.
 
 ghost use Rattle.std.specs.Prelude.{◌≡◌, ◌≤◌, ◌++◌, codes, length, map, OnOk};
-ghost use Rattle.bgp_text.specs.Below.{flat_map, string_bytes, notes_left, fields_left, outcome_value};
+ghost use Rattle.bgp_text.specs.Below.{flat_map, string_bytes, notes_left, fields_left, outcome_value, refresh_value};
 ghost use Rattle.bgp_text.specs.FieldLines.{field_said, reset_reason};
 ghost use Rattle.bgp_text.specs.Json.{behind_comma, quoted, where_said};
-ghost use Rattle.bgp_text.specs.JsonFields.{without_space, field_members, marked_member, wrong_member, told_json, faulty_field, fields_member, unplaced_json, faults_member, noted_members, explained_members, span_of, explained_json};
+ghost use Rattle.bgp_text.specs.JsonFields.{without_space, field_members, marked_member, wrong_member, told_json, faulty_field, fields_member, unplaced_json, faults_member, noted_members, explained_members, span_of, explained_json, explained_refresh_json};
 ghost use Rattle.bgp_text.specs.steps.Rows.{noting_fields, noting_left, plain_field, row_of};
 
 use crate::field_lines::{Noting, put_note_reason, put_reset_reason, put_said};
@@ -16,11 +16,13 @@ use crate::json::{
 };
 use crate::json_list::{Element, put_list_member};
 use crate::json_outcome::put_viewed_members;
+use crate::json_refresh::put_refresh_members;
 use crate::told::{FaultyFields, NotedFields, PlainFields, Shown, Wrong, behind_fields};
 use bgp_fields::{Cause, Fault, Field, FieldIter, Span};
 use bgp_frame::NotificationView;
 use bgp_msg::OutcomeView;
 use bgp_open::Context;
+use bgp_refresh::RefreshView;
 use bgp_update::{Note, NoteIter};
 use std::alloc::{AllocError, Global};
 
@@ -299,5 +301,27 @@ pub fn put_explained_json(
 {
     put_viewed_members(alloc, text, place, len, span_of(fault), outcome)?;
     put_fields(alloc, text, ctx, octets, fault, outcome)?;
+    put_line_end(text)
+}
+
+/// Adds a ROUTE-REFRESH that is accepted as a JSON object on a line: as [`put_refresh_json`](crate::put_refresh_json), with the fields of its octets at
+/// the end, as [`put_explained_refresh`](crate::put_explained_refresh) reports them.
+///
+/// # Errors
+/// `AllocError` where an allocation failed.
+pub fn put_explained_refresh_json(
+    alloc: Global,
+    text: &mut String,
+    ctx: &Context,
+    place: u64,
+    len: u16,
+    octets: &[u8],
+    refresh: &RefreshView<'_>,
+) -> Result<(), AllocError>
+    requires { length octets.now ≤ 4096 }
+    ensures { OnOk result (string_bytes text.new ≡ string_bytes text.old ++ explained_refresh_json ctx.now place len octets.now (refresh_value refresh.now)) }
+{
+    put_refresh_members(text, place, len, refresh)?;
+    put_plain(alloc, text, octets, FieldIter::of_refresh(ctx, octets))?;
     put_line_end(text)
 }

@@ -48,11 +48,11 @@ mod word;
 
 pub use attribute_lines::put_attribute;
 pub use end::put_end;
-pub use explained::put_explained;
+pub use explained::{put_explained, put_explained_refresh};
 pub use field_names::field_name;
 pub use info::{info_text, notification_text};
 pub use json_end::put_end_json;
-pub use json_fields::put_explained_json;
+pub use json_fields::{put_explained_json, put_explained_refresh_json};
 pub use json_outcome::put_viewed_json;
 pub use json_refresh::put_refresh_json;
 pub use note_lines::why_name;

@@ -84,7 +84,7 @@ fn header_wanted(subcode: u8) -> &'static str
     match subcode {
         1 => "sixteen octets ff",
         2 => "19 to 4096, and what the type needs",
-        3 => "1 to 4",
+        3 => "1 to 4, or 5 where the receiver offers ROUTE-REFRESH",
         _ => "",
     }
 }

@@ -58,6 +58,7 @@ pub(crate) fn number_of_kind(kind: FieldKind) -> u8
         FieldKind::ErrorSubcode => 42,
         FieldKind::Data => 43,
         FieldKind::Unread => 44,
+        FieldKind::Subtype => 45,
     }
 }
 
@@ -111,6 +112,7 @@ fn kind_of(number: u32) -> Option<FieldKind>
         42 => Some(FieldKind::ErrorSubcode),
         43 => Some(FieldKind::Data),
         44 => Some(FieldKind::Unread),
+        45 => Some(FieldKind::Subtype),
         _ => None,
     }
 }
