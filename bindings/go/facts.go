@@ -113,8 +113,8 @@ func (message *Message) Facts() *Facts {
 }
 
 // Agree gives what two speakers agree on, given octets that begin with the OPEN of each: the context of their session, and its Hold Time in seconds, 0
-// for none; as `bgp show --opens` finds it. ErrIncomplete or ErrRefused: one of them isn't an accepted OPEN. Neither is refused for what it says:
-// refuse a direction for which both agree on path identifiers (capability 69; RFC 7911) before reading on, since its routes aren't supported here.
+// for none; as `bgp show --opens` finds it. ErrIncomplete or ErrRefused: one of them isn't an accepted OPEN. Neither is refused for what it says.
+// A direction for which both agree on path identifiers (capability 69; RFC 7911) is read by TermsOf and WithoutPaths.
 func Agree(ours, theirs []byte) (Context, uint16, error) {
 	var said C.ristulva_context
 	var hold C.uint16_t

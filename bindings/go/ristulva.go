@@ -34,7 +34,7 @@ var (
 	ErrMixed      = errors.New("ristulva: routes of several kinds")
 	ErrClosed     = errors.New("ristulva: it is closed")
 	ErrReset      = errors.New("ristulva: the stream was ended by a reset")
-	ErrTerms      = errors.New("ristulva: routes have path identifiers, which no call reads, or a number of terms is out of its range")
+	ErrTerms      = errors.New("ristulva: routes have path identifiers, which this call doesn't read, or a number of terms is out of its range")
 	ErrRefresh    = errors.New("ristulva: a ROUTE-REFRESH isn't cleaned")
 )
 

@@ -21,6 +21,46 @@ const (
 	SubtypeEnd     = C.RISTULVA_SUBTYPE_END     // a refresh ends (EoRR)
 )
 
+// PathsMax is the most path identifiers of a message.
+const PathsMax = C.RISTULVA_PATHS
+
+// WithoutPaths gives the message that octets begin with, without the path identifiers that its routes have by the terms (RFC 7911), for each function
+// that takes a context. Another message than an UPDATE is as it was. ErrIncomplete; ErrRefused: its header has a fault; ErrTerms: Refresh is none of its
+// numbers.
+func WithoutPaths(terms Terms, octets []byte) ([]byte, error) {
+	message := make([]byte, MessageMax)
+	said := terms.said()
+	at, size := octetsOf(octets)
+	into, room := octetsOf(message)
+	var written C.size_t
+	if err := pathsFailed(C.ristulva_without_paths(&said, at, size, into, room, &written)); err != nil {
+		return nil, err
+	}
+	return message[:written], nil
+}
+
+// Paths gives the path identifiers of the routes of the message that octets begin with, one for each of Message.Routes of what WithoutPaths gives, in the
+// same order: 0 where the family of a route has none by the terms. Errors are those of WithoutPaths; ErrRefused: the UPDATE resets the session, too.
+func Paths(terms Terms, octets []byte) ([]uint32, error) {
+	paths := make([]uint32, PathsMax)
+	said := terms.said()
+	at, size := octetsOf(octets)
+	var written C.size_t
+	status := C.ristulva_paths(&said, at, size, (*C.uint32_t)(unsafe.Pointer(&paths[0])), PathsMax, &written)
+	if err := pathsFailed(status); err != nil {
+		return nil, err
+	}
+	return paths[:written], nil
+}
+
+// The error of a status, of a call with terms.
+func pathsFailed(status C.ristulva_status) error {
+	if status == C.RISTULVA_RANGE {
+		return ErrTerms
+	}
+	return failed(status)
+}
+
 // The type of a ROUTE-REFRESH.
 const routeRefresh = 5
 
@@ -31,8 +71,8 @@ type Terms struct {
 	Refresh      Refreshes // which ROUTE-REFRESH is accepted
 	LongMessages bool      // the reader accepts messages of up to 65535 octets (capability 6; RFC 8654)
 	LongBack     bool      // the sender does: NOTIFICATIONs to it may be that long
-	Paths4       bool      // IPv4 unicast routes have path identifiers (capability 69; RFC 7911): no message can be judged
-	Paths6       bool      // IPv6 unicast routes have path identifiers: no message can be judged
+	Paths4       bool      // IPv4 unicast routes have path identifiers (capability 69; RFC 7911): Paths has them
+	Paths6       bool      // IPv6 unicast routes have path identifiers
 	Hop6         bool      // IPv4 unicast routes may have an IPv6 next hop (capability 5; RFC 8950)
 }
 

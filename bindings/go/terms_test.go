@@ -56,7 +56,44 @@ func TestTermsOf(t *testing.T) {
 	}
 }
 
-// No message is read where routes have path identifiers, or where a number is none of those that are named.
+// A message without path identifiers, and these beside its routes (RFC 7911, section 3).
+func TestPaths(t *testing.T) {
+	terms := Terms{Context: Context{AS4: true, IP4: true, IP6: true}, Paths4: true, Paths6: true}
+	octets := message(2, digits("0000 0035 40010100 40020602010000fde8 400304c0000201 800e1e 000201 10 20010db8000000000000000000000001 00",
+		"00000009 2020010db8 00000001 080a"))
+	plain, err := WithoutPaths(terms, append(octets, 0))
+	if err != nil || len(plain) != len(octets)-8 {
+		t.Fatalf("%x and %v", plain, err)
+	}
+	if routes, losesIP6 := judgedAs(t, plain, terms.Context).Routes(); len(routes) != 2 || losesIP6 {
+		t.Errorf("%v and %v", routes, losesIP6)
+	}
+	if paths, err := Paths(terms, octets); len(paths) != 2 || paths[0] != 9 || paths[1] != 1 || err != nil {
+		t.Errorf("%v and %v", paths, err)
+	}
+	if paths, err := Paths(Terms{Context: terms.Context}, plain); len(paths) != 2 || paths[0] != 0 || paths[1] != 0 || err != nil {
+		t.Errorf("%v and %v", paths, err)
+	}
+	for _, it := range []struct {
+		terms  Terms
+		octets []byte
+		wanted error
+	}{
+		{terms, nil, ErrIncomplete}, {terms, octets[:30], ErrIncomplete}, {terms, message(5, digits("0001 00 01")), ErrRefused}, {Terms{Refresh: 3}, octets, ErrTerms},
+	} {
+		if plain, err := WithoutPaths(it.terms, it.octets); plain != nil || !errors.Is(err, it.wanted) {
+			t.Errorf("%x and %v, instead of %v", plain, err, it.wanted)
+		}
+		if paths, err := Paths(it.terms, it.octets); paths != nil || !errors.Is(err, it.wanted) {
+			t.Errorf("%v and %v, instead of %v", paths, err, it.wanted)
+		}
+	}
+	if paths, err := Paths(terms, message(2, digits("0004 00000001 0000"))); paths != nil || !errors.Is(err, ErrRefused) {
+		t.Errorf("%v and %v", paths, err)
+	}
+}
+
+// No message is judged where routes have path identifiers, or where a number is none of those that are named.
 func TestTermsOutOfRange(t *testing.T) {
 	for _, terms := range []Terms{{Paths4: true}, {Refresh: RefreshPlain, Paths6: true}, {Refresh: 3}, {Refresh: 255}} {
 		for _, octets := range [][]byte{nil, message(4, nil), message(5, digits("0001 00 01"))} {

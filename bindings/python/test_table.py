@@ -253,7 +253,7 @@ class Refreshed(unittest.TestCase):
             octets = b"".join(parts)
             with unittest.mock.patch.object(tables, "judge", wraps=tables.judge) as judge:
                 table = ristulva.table(octets, terms)
-                self.assertEqual(judge.call_count, 1 + sum(part[18] == 5 for part in parts))
+                self.assertEqual(judge.call_count, sum(part[18] == 5 for part in parts))
             self.assertEqual((table.taken, table.rest, table.routes.flags.owndata), (len(octets), 0, True))
             self.assertEqual(values(table.routes, "message"), [it.place for it in ristulva.messages(octets, terms) for _ in it.routes()])
 
@@ -285,10 +285,32 @@ class Refreshed(unittest.TestCase):
         self.assertEqual(table.message(len(FIRST)).refresh(), ristulva.Refresh(1, 1, ristulva.Subtype.BEGIN, b""))
 
     def test_paths(self):
-        """Nothing is read where routes have path identifiers, whatever the octets are."""
-        for terms in (ristulva.Terms(FOUR, paths4=True), ristulva.Terms(FOUR, 2, paths6=True)):
-            for octets in (b"", STREAM, REQUEST):
-                self.assertRaisesRegex(ValueError, "path identifiers", ristulva.table, octets, terms)
+        """The rows are those of the stream without path identifiers, and each route has its own (RFC 7911, section 3)."""
+        terms = ristulva.Terms(FOUR, 2, paths4=True, paths6=True)
+        reach, unreach = REACH.replace("1a", "1e", 1).replace("00 20 2001", "00 00000007 20 2001"), "800f0e 0002 01 00000006 30 20010db80001"
+        first = update(ORIGIN + PATH + HOP + COMMUNITIES + LARGE + reach + unreach, nlri="00000001 080a ffffffff 18c63364", withdrawn="00000005 100a01")
+        second = update("40010109" + PATH + HOP, nlri="00000002 18cb0071")
+        table, warned = told(first + BEGIN + KEEPALIVE + second, terms)
+        plain = ristulva.table(FIRST + BEGIN + KEEPALIVE + SECOND, ENHANCED)
+        self.assertEqual((warned, table.taken, table.rest, table.reset), ([], len(first + BEGIN + KEEPALIVE + second), 0, None))
+        self.assertEqual(values(table.routes, "path"), [5, 6, 7, 1, 4294967295, 2])
+        self.assertEqual(values(plain.routes, "path"), [0] * 6)
+        names = [name for name in plain.routes.dtype.names if name not in ("message", "path")]
+        self.assertEqual(values(table.routes, *names), values(plain.routes, *names))
+        offset = len(first + BEGIN + KEEPALIVE)
+        self.assertEqual(values(table.routes, "message"), [0] * 5 + [offset])
+        self.assertEqual(values(table.communities, "message", "value"), values(plain.communities, "message", "value"))
+        self.assertEqual([it.path for it in table.message(offset).routes()], [2])
+
+    def test_paths_to_the_end(self):
+        """What ends a stream with path identifiers ends its table: an UPDATE, a header, and too few octets."""
+        terms = ristulva.Terms(FOUR, paths4=True)
+        first, cut = update(ORIGIN + PATH + HOP, nlri="00000001 080a"), update(nlri="00000001")
+        for end, kinds in ((cut + first, [ristulva.Reset]), (REQUEST + first, [ristulva.Reset]), (first[:-1], [ristulva.Incomplete])):
+            table, warned = told(first + end, terms)
+            self.assertEqual((warned, table.taken, table.rest, values(table.routes, "path")), (kinds, len(first), len(end), [1]))
+            self.assertEqual(table.reset is None, kinds == [ristulva.Incomplete])
+        self.assertEqual(told(b"", terms)[0].routes.size, 0)
 
 
 @unittest.skipUnless(HAS_NUMPY, "needs numpy")

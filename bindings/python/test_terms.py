@@ -4,6 +4,7 @@ import copy
 import ctypes
 import dataclasses
 import gc
+import ipaddress
 import pickle
 import resource
 import sys
@@ -37,6 +38,10 @@ HOP6, PATHS4, PATHS6 = "0506000100010002", "450400010103", "450400020103"
 KEEPALIVE, REQUEST, BORR = message(4, b""), refresh("00010001"), refresh("00010101")
 # 10.0.0.0/8 by the path 70000 65001, next hop 192.0.2.1.
 UPDATE = message(2, bytes.fromhex("0000" + "0018" + "40010100" + "40020a0202000111700000fde9" + "400304c0000201" + "080a"))
+# The same with 2001:db8::/32, and with path identifiers 9 and 1.
+SHARED, HOP = "40010100" + "40020a0202000111700000fde9" + "400304c0000201", "000201" + "10" + "20010db8000000000000000000000001" + "00"
+PLAIN_UPDATE = message(2, bytes.fromhex("0000" + "0035" + SHARED + "800e1a" + HOP + "2020010db8" + "080a"))
+IDENTIFIED = message(2, bytes.fromhex("0000" + "0039" + SHARED + "800e1e" + HOP + "00000009" + "2020010db8" + "00000001" + "080a"))
 STREAM = opened(IP4, IP6, REFRESH) + KEEPALIVE + REQUEST + UPDATE + BORR + refresh("0002020101") + KEEPALIVE
 
 
@@ -89,12 +94,46 @@ class Values(unittest.TestCase):
         self.assertEqual(Terms(), Terms(ristulva.Context(), Refreshes.NONE, False, False, False, False, False))
 
     def test_paths(self):
-        """No message is judged where routes have path identifiers, whatever it is."""
-        for terms in (Terms(paths4=True), Terms(refresh=2, paths6=True)):
-            self.assertRaises(ValueError, ristulva.judge, REQUEST, terms)
-            self.assertRaises(ValueError, ristulva.judge, b"", terms)
-            with self.assertRaises(ValueError):
-                list(ristulva.messages(KEEPALIVE, terms))
+        """A message is read without path identifiers, and each route has its own, in the families that have them (RFC 7911, section 3)."""
+        both = Terms(BOTH, 2, paths4=True, paths6=True)
+        self.assertEqual((both.has_paths(), Terms(BOTH, 2).has_paths(), both.plain()), (True, False, Terms(BOTH, 2)))
+        it = ristulva.judge(IDENTIFIED, both, 7)
+        self.assertEqual((it.verdict, it.terms, it.octets, it.received, len(it)), ("update", both, PLAIN_UPDATE, IDENTIFIED, len(PLAIN_UPDATE)))
+        wanted = [("2001:db8::/32", 9), ("10.0.0.0/8", 1)]
+        self.assertEqual(it.routes(), [ristulva.Route(ipaddress.ip_network(prefix), True, path) for prefix, path in wanted])
+        self.assertEqual(str(it), str(ristulva.judge(PLAIN_UPDATE, BOTH, 7)))
+        for back in (pickle.loads(pickle.dumps(it)), copy.copy(it), copy.deepcopy(it)):
+            self.assertEqual((back, back.routes()), (it, it.routes()))
+        self.assertNotEqual(it, ristulva.judge(PLAIN_UPDATE, both.plain(), 7))
+
+    def test_paths_of_streams(self):
+        """Offsets are those of the stream as it was received; a ROUTE-REFRESH, an incomplete message and a header with a fault are as they are."""
+        both = Terms(BOTH, 1, paths4=True, paths6=True)
+        found = list(ristulva.messages(KEEPALIVE + IDENTIFIED + REQUEST + IDENTIFIED, both))
+        self.assertEqual([it.verdict for it in found], ["keepalive", "update", "refresh", "update"])
+        self.assertEqual([it.place for it in found], [0, 19, 19 + len(IDENTIFIED), 42 + len(IDENTIFIED)])
+        self.assertEqual((found[2].refresh(), found[2].received), (ristulva.Refresh(1, 1, 0, b""), REQUEST))
+        self.assertEqual((found[0].routes(), found[0].octets), ([], KEEPALIVE))
+        for size in range(len(IDENTIFIED)):
+            self.assertIsNone(ristulva.judge(IDENTIFIED[:size], both))
+        it = ristulva.judge(REQUEST + KEEPALIVE, Terms(BOTH, paths6=True))
+        self.assertEqual((it.notification, it.octets, it.received), ((1, 3, b"\x05"), REQUEST[:19], REQUEST[:19]))
+        # An identifier without a prefix (RFC 7606, section 5.3).
+        cut = message(2, bytes.fromhex("0004" + "00000001" + "0000"))
+        it = ristulva.judge(cut + KEEPALIVE, both)
+        self.assertEqual((it.verdict, it.notification[:2], it.received, it.routes()), ("reset", (3, 10), cut, []))
+        # In an attribute: that is the data, as it was received (RFC 7606, section 7.12).
+        attribute = bytes.fromhex("800f07" + "000201" + "00000001")
+        it = ristulva.judge(message(2, bytes.fromhex("0000000a") + attribute), both)
+        self.assertEqual(it.notification, (3, 9, attribute))
+
+    def test_path_of_a_family(self):
+        """Each family for itself (RFC 7911, section 4): a route of the other one has none."""
+        it = ristulva.judge(message(2, UPDATE[19:-2] + bytes.fromhex("00000000" + "080a")), Terms(BOTH, paths4=True))
+        self.assertEqual([(str(route.prefix), route.path) for route in it.routes()], [("10.0.0.0/8", 0)])
+        it = ristulva.judge(UPDATE, Terms(BOTH, paths6=True))
+        self.assertEqual([(str(route.prefix), route.path) for route in it.routes()], [("10.0.0.0/8", None)])
+        self.assertEqual([route.path for route in ristulva.judge(UPDATE, BOTH).routes()], [None])
 
     def test_messages(self):
         """A message by terms is a value too, and another than that in their context."""

@@ -34,10 +34,10 @@ def read_case(lines, names):
     return Case(given["case"][0], " ".join(given["flags"]).split(), opens, octets, (given["command"] or ["show"])[0].split(), want)
 
 
-def read_cases():
-    """The cases of all files."""
+def read_cases(files="*.txt"):
+    """The cases of all files of such names."""
     found = []
-    for path in sorted(HERE.glob("*.txt")):
+    for path in sorted(HERE.glob(files)):
         names = {}
         for block in re.split(r"\n\s*\n", path.read_text()):
             lines = [line for line in block.splitlines() if not line.startswith("#")]

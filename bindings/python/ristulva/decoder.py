@@ -9,7 +9,7 @@ import weakref
 from ctypes import c_size_t
 
 from .library import DATA, HEADER, LIBRARY, MESSAGE, RANGE, STATE, Handle, Verdict
-from .message import PATHS, Context, Message, Terms, check
+from .message import Context, Message, Terms, check
 
 UNTOLD = c_size_t(-1).value  # more octets than any call consumes
 
@@ -54,7 +54,7 @@ class Decoder:
         make = LIBRARY.ristulva_stream_new if by_terms else LIBRARY.ristulva_decoder_new
         status: int = make(context.said(), self._handle)
         if status == RANGE:
-            raise ValueError(PATHS)
+            raise ValueError("routes have path identifiers, which a decoder doesn't read: `messages` does")
         check(status)
         self._free = weakref.finalize(self, LIBRARY.ristulva_stream_free if by_terms else LIBRARY.ristulva_decoder_free, self._handle)
 

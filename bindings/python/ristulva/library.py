@@ -173,6 +173,7 @@ def place() -> str:
 SHORT = (
     "next_attribute", "next_prefix", "next_route", "next_segment", "next_number", "next_large_community", "next_capability", "reached", "unreached", "open", "judge",
     "facts", "begin_routes", "agree", "name", "session_state", "session_context", "terms_of", "judge_in", "refresh_in", "encode_refresh",
+    "judge_paths", "without_paths", "paths",
 )
 
 
@@ -229,6 +230,9 @@ def load() -> tuple[Library, int]:
         "judge_in": [POINTER(SaidTerms), *octets, *buffer, POINTER(Verdict)],
         "text_in": [POINTER(SaidTerms), c_uint64, *octets, *buffer, POINTER(c_size_t)],
         "refresh_in": [POINTER(SaidTerms), *octets, POINTER(CRefresh)],
+        "judge_paths": [POINTER(SaidTerms), *octets, *buffer, POINTER(Verdict)],
+        "without_paths": [POINTER(SaidTerms), *octets, *buffer, POINTER(c_size_t)],
+        "paths": [POINTER(SaidTerms), *octets, POINTER(c_uint32), c_size_t, POINTER(c_size_t)],
         "encode_refresh": [c_uint16, c_uint8, c_uint8, *buffer, POINTER(c_size_t)],
         "name": [c_uint8, c_uint8, c_uint8, *buffer, POINTER(c_size_t)],
         "fields": [POINTER(Said), *octets, POINTER(CField), c_size_t, POINTER(c_size_t)],

@@ -23,7 +23,7 @@ from .library import (
 WHYS = ("Flags", "Length", "Value", "SegmentType", "SegmentCount", "SegmentEnd", "Repeated", "External", "FourOctet", "Family", "Unneeded", "Emptied",
         "Cut", "Missing", "AsZero")
 ROUTE_REFRESH = 5  # the type of the message
-PATHS = "routes have path identifiers, which no call reads"  # why no message can be judged by some Terms
+PATHS_MAX = 4073  # the most routes of a message
 ENDS = {0: None, 1: "reset", 2: "late open", 3: "no family"}
 Octets = typing.Union[bytes, bytearray, memoryview]
 Prefix = typing.Union[ipaddress.IPv4Network, ipaddress.IPv6Network]
@@ -74,8 +74,8 @@ class Terms:
     refresh: int = Refreshes.NONE
     long_messages: bool = False  # the reader accepts messages of up to 65535 octets (capability 6; RFC 8654)
     long_back: bool = False  # the sender does: NOTIFICATIONs to it may be that long
-    paths4: bool = False  # IPv4 unicast routes have path identifiers (capability 69; RFC 7911), and no message can be judged
-    paths6: bool = False  # IPv6 unicast routes have path identifiers, and no message can be judged
+    paths4: bool = False  # IPv4 unicast routes have path identifiers (capability 69; RFC 7911)
+    paths6: bool = False  # IPv6 unicast routes have path identifiers
     hop6: bool = False  # IPv4 unicast routes may have an IPv6 next hop (capability 5; RFC 8950)
 
     def __post_init__(self) -> None:
@@ -85,6 +85,14 @@ class Terms:
 
     def said(self) -> SaidTerms:
         return SaidTerms(self.context.said(), self.refresh, self.long_messages, self.long_back, self.paths4, self.paths6, self.hop6)
+
+    def has_paths(self) -> bool:
+        """Whether routes have path identifiers."""
+        return self.paths4 or self.paths6
+
+    def plain(self) -> Terms:
+        """The same, but for path identifiers, which no route has: by it a message is read without them."""
+        return dataclasses.replace(self, paths4=False, paths6=False)
 
 
 class Refused(Exception):
@@ -133,6 +141,7 @@ class Route:
 
     prefix: Prefix
     announced: bool
+    path: typing.Optional[int] = None  # its path identifier (RFC 7911); None where its family has none, and in a context
 
 
 @dataclasses.dataclass(frozen=True)
@@ -189,12 +198,17 @@ class Message:
     """A message that was judged, or a header with a fault. Two are equal where their octets, contexts or terms, offsets and verdicts are.
 
     `terms` is None where it was judged in a context. A ROUTE-REFRESH, which only terms have, has neither fields nor a section: these calls, and `clean`,
-    raise ValueError."""
+    raise ValueError.
 
-    def __init__(self, octets: bytes, context: typing.Union[Context, Terms], place: int, verdict: Verdict, data: bytes) -> None:
+    By terms with path identifiers, `octets` is the message without them, which all else is of, and `received` that with them; else both are the same."""
+
+    def __init__(
+        self, octets: bytes, context: typing.Union[Context, Terms], place: int, verdict: Verdict, data: bytes, received: typing.Optional[bytes] = None,
+    ) -> None:
         self.terms = context if isinstance(context, Terms) else None
         self.context = context.context if isinstance(context, Terms) else context
         self.octets, self.place = octets, place
+        self.received = octets if received is None else received
         self.found, self.data = verdict, data
 
     def __repr__(self) -> str:
@@ -202,7 +216,7 @@ class Message:
 
     def _known(self) -> tuple[typing.Any, ...]:
         """All that makes it what it is."""
-        return self.octets, self.terms or self.context, self.place, bytes(self.found), self.data
+        return self.octets, self.terms or self.context, self.place, bytes(self.found), self.data, self.received
 
     def __eq__(self, other: object) -> bool:
         if not isinstance(other, Message):
@@ -242,7 +256,7 @@ class Message:
 
     def __str__(self) -> str:
         """The lines that `bgp show` prints."""
-        call, by = (LIBRARY.ristulva_text, self.context.said()) if self.terms is None else (LIBRARY.ristulva_text_in, self.terms.said())
+        call, by = (LIBRARY.ristulva_text, self.context.said()) if self.terms is None else (LIBRARY.ristulva_text_in, self.terms.plain().said())
         room, written = 4096, c_size_t()
         while True:
             text = ctypes.create_string_buffer(room)
@@ -265,7 +279,7 @@ class Message:
     def refresh(self) -> typing.Optional[Refresh]:
         """What an accepted ROUTE-REFRESH says; None for any other message."""
         it = CRefresh()
-        if self.terms is None or LIBRARY.ristulva_refresh_in(self.terms.said(), self.octets, len(self.octets), it) != OK:
+        if self.terms is None or LIBRARY.ristulva_refresh_in(self.terms.plain().said(), self.octets, len(self.octets), it) != OK:
             return None
         return Refresh(it.afi, it.safi, it.subtype, self.octets[it.rest.at : it.rest.at + it.rest.len])
 
@@ -358,7 +372,15 @@ class Message:
             return []
         if cursor.loses_ip6:
             warnings.warn("an UPDATE has attributes of IPv6 unicast, and its context no ip6", FamilyNotAgreed, stacklevel=2)
-        return [Route(prefix_of(it.prefix), bool(it.announced)) for it in each("next_route", self.octets, cursor, CRoute())]
+        found = [Route(prefix_of(it.prefix), bool(it.announced)) for it in each("next_route", self.octets, cursor, CRoute())]
+        return found if self.terms is None or not self.terms.has_paths() else self._identified(found, self.terms)
+
+    def _identified(self, routes: list[Route], terms: Terms) -> list[Route]:
+        """Its routes with their path identifiers, in the families that have them."""
+        paths, count = (c_uint32 * PATHS_MAX)(), c_size_t()
+        LIBRARY.ristulva_paths(terms.said(), self.received, len(self.received), paths, PATHS_MAX, count)
+        has = {4: terms.paths4, 6: terms.paths6}
+        return [dataclasses.replace(it, path=path) if has[it.prefix.version] else it for it, path in zip(routes, paths[: count.value])]
 
     def facts(self) -> typing.Optional[Facts]:
         """Common attributes of an UPDATE, of those that are kept; None where it isn't accepted, and for other messages."""
@@ -393,9 +415,9 @@ class Message:
         return [(it.numbers[0], it.numbers[1], it.numbers[2]) for it in each("next_large_community", self.octets, LargeCommunities(at, at, end), CLargeCommunity())]
 
 
-def restored(octets: bytes, context: typing.Union[Context, Terms], place: int, found: bytes, data: bytes) -> Message:
+def restored(octets: bytes, context: typing.Union[Context, Terms], place: int, found: bytes, data: bytes, received: typing.Optional[bytes] = None) -> Message:
     """A message as it was pickled or copied."""
-    return Message(octets, context, place, Verdict.from_buffer_copy(found), data)
+    return Message(octets, context, place, Verdict.from_buffer_copy(found), data, received)
 
 
 def in_octets(buffer: typing.Any) -> typing.Any:
@@ -411,21 +433,38 @@ def part(octets: typing.Any, at: int) -> bytes:
 
 def judged(octets: bytes, context: typing.Union[Context, Terms], place: int) -> typing.Optional[Message]:
     """The message that some bytes begin with, or None where they are less than one."""
+    if isinstance(context, Terms) and context.has_paths():
+        return judged_without_paths(octets, context, place)
     verdict, data = Verdict(), ctypes.create_string_buffer(DATA)
     call = LIBRARY.ristulva_judge_in if isinstance(context, Terms) else LIBRARY.ristulva_judge
     status = call(context.said(), octets, len(octets), data, DATA, verdict)
     if status == INCOMPLETE:
         return None
-    if status == RANGE:
-        raise ValueError(PATHS)
     return Message(octets[: verdict.len or HEADER], context, place, verdict, ctypes.string_at(data, verdict.data_len))
+
+
+def judged_without_paths(octets: bytes, terms: Terms, place: int) -> typing.Optional[Message]:
+    """The message that some bytes begin with, judged without its path identifiers, or None where they are less than one."""
+    message, written = ctypes.create_string_buffer(MESSAGE), c_size_t()
+    status = LIBRARY.ristulva_without_paths(terms.said(), octets, len(octets), message, MESSAGE, written)
+    if status == INCOMPLETE:
+        return None
+    # A header with a fault is judged as it is.
+    plain, length = (ctypes.string_at(message, written.value), int.from_bytes(octets[16:18], "big")) if status == OK else (octets, HEADER)
+    found = judged(plain, terms.plain(), place)
+    if found is None:
+        return None
+    verdict, data = Verdict(), ctypes.create_string_buffer(DATA)
+    LIBRARY.ristulva_judge_paths(terms.said(), octets, len(octets), data, DATA, verdict)
+    return Message(found.octets, terms, place, found.found, ctypes.string_at(data, verdict.data_len), octets[:length])
 
 
 def judge(octets: typing.Any, context: typing.Union[Context, Terms], place: int = 0) -> typing.Optional[Message]:
     """The message that octets begin with, or None where they are less than one. Of a header with a fault it has the 19 octets of the header.
 
     `octets` is bytes or another buffer, which is read octet by octet, whatever its elements are. By Terms a ROUTE-REFRESH is a message where its reader
-    offers it, and ValueError is raised where routes have path identifiers."""
+    offers it, and a message whose routes have path identifiers is judged without them: `Route.path` is that of a route. An attribute that is data of a
+    NOTIFICATION is as it was received."""
     return judged(part(in_octets(octets), 0), context, place)
 
 
@@ -438,7 +477,7 @@ def messages(octets: typing.Any, context: typing.Union[Context, Terms]) -> typin
         yield message
         if message.verdict == "reset":
             return
-        place += message.found.len
+        place += len(message.received)
     rest = len(octets) - place
     if rest:
         warnings.warn(f"the stream ends inside a message, of which it has {rest} octets", Incomplete, stacklevel=2)
@@ -451,8 +490,8 @@ def note_section(kind: int, why: str) -> str:
 
 def agree(ours: typing.Any, theirs: typing.Any) -> typing.Optional[tuple[Context, int]]:
     """What two speakers agree on, given octets that begin with the OPEN of each: the context of their session, and its Hold Time in seconds, 0 for
-    none; as `bgp show --opens` finds it. None where one of them isn't an accepted OPEN. Neither is refused for what it says: refuse a direction for which
-    both agree on path identifiers (capability 69; RFC 7911) before reading on, since its routes aren't supported here."""
+    none; as `bgp show --opens` finds it. None where one of them isn't an accepted OPEN. Neither is refused for what it says. A direction for which both
+    agree on path identifiers (capability 69; RFC 7911) is read by the terms of `terms_of`."""
     said, hold = Said(), c_uint16()
     one, other = part(in_octets(ours), 0), part(in_octets(theirs), 0)
     if LIBRARY.ristulva_agree(one, len(one), other, len(other), said, hold) != OK:

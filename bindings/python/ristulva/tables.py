@@ -2,14 +2,15 @@
 
 from __future__ import annotations
 
+import ctypes
 import importlib
 import ipaddress
 import typing
 import warnings
-from ctypes import c_size_t
+from ctypes import c_size_t, c_uint32
 
-from .library import BATCH, INCOMPLETE, LIBRARY, OK, REFUSED, RouteCursor
-from .message import Context, FamilyNotAgreed, Incomplete, Message, Prefix, Terms, judge
+from .library import BATCH, INCOMPLETE, LIBRARY, MESSAGE, OK, REFUSED, RouteCursor
+from .message import PATHS_MAX, Context, FamilyNotAgreed, Incomplete, Message, Prefix, Terms, judge
 
 if typing.TYPE_CHECKING:
     import numpy
@@ -18,13 +19,13 @@ if typing.TYPE_CHECKING:
     Array = numpy.ndarray[typing.Any, numpy.dtype[typing.Any]]
 
 # Of each kind of rows: the call that writes them, the length of a row, and its fields, each with its form and its offset. An address is two
-# numbers: so it is compared, sorted and joined. All fields but these two are in the machine's order.
+# numbers: so it is compared, sorted and joined. All fields but these two are in the machine's order. The octets of `path` are zeros as the library writes them.
 PLACE = [("at", "u2"), ("len", "u2")]
 KINDS: dict[str, tuple[str, int, dict[str, tuple[typing.Any, int]]]] = {
     "routes": ("ristulva_routes", 56, {
         "message": ("u8", 0), "origin_as": ("u4", 8), "as_path": (PLACE, 12), "as4_path": (PLACE, 16), "communities": (PLACE, 20),
         "large_communities": (PLACE, 24), "afi": ("u2", 28), "length": ("u1", 30), "high": (">u8", 31), "low": (">u8", 39), "announced": ("?", 48),
-        "verdict": ("u1", 49), "has_origin_as": ("?", 50),
+        "verdict": ("u1", 49), "has_origin_as": ("?", 50), "path": ("u4", 52),
     }),
     "path_numbers": ("ristulva_path_numbers", 16, {
         "message": ("u8", 0), "number": ("u4", 8), "segment": ("u2", 12), "set": ("?", 14),
@@ -156,6 +157,36 @@ def loses_ip6(octets: Array, context: Context, starts: Array) -> bool:
     return False
 
 
+class Plain(typing.NamedTuple):
+    """A stream without path identifiers."""
+
+    octets: Array
+    starts: Array  # the offset of each message in the stream, and that of what follows the last
+    places: Array  # and those in these octets
+    paths: Array  # the path identifiers of the routes
+
+
+def without_paths(octets: Array, terms: Terms) -> Plain:
+    """A stream without path identifiers, up to the first UPDATE that resets the session, or a header with a fault, with the octets of a message after it."""
+    import numpy
+
+    said, message, paths, count = terms.said(), ctypes.create_string_buffer(MESSAGE), (c_uint32 * PATHS_MAX)(), c_size_t()
+    parts: list[bytes] = []
+    starts, places, found = [0], [0], [numpy.empty(0, "u4")]
+    while True:
+        part = octets[starts[-1] : starts[-1] + MESSAGE].tobytes()
+        if LIBRARY.ristulva_without_paths(said, part, len(part), message, MESSAGE, count) != OK:
+            break
+        parts.append(ctypes.string_at(message, count.value))
+        starts.append(starts[-1] + int.from_bytes(part[16:18], "big"))
+        places.append(places[-1] + count.value)
+        if LIBRARY.ristulva_paths(said, part, len(part), paths, PATHS_MAX, count) != OK:
+            break
+        found.append(numpy.array(paths[: count.value], "u4"))
+    parts.append(octets[starts[-1] : starts[-1] + MESSAGE].tobytes())
+    return Plain(view_of(b"".join(parts)), numpy.array(starts), numpy.array(places), numpy.concatenate(found))
+
+
 class Table:
     """What a stream says, as arrays, a row for each thing that is said. The field `message` of each row is the offset of its message in the stream; rows
     are in the order of the stream, so that these ascend.
@@ -165,25 +196,46 @@ class Table:
 
     def __init__(self, octets: typing.Any, context: By) -> None:
         whole = view_of(octets)
-        judge(b"", context)  # which refuses terms with path identifiers
-        batch = read("routes", whole, context)
         self.terms = context if isinstance(context, Terms) else None  # None where it was read in a context
         self.context = context.context if isinstance(context, Terms) else context
-        self.taken = batch.taken  # the total length of the messages that were read
-        self.rest = whole.size - batch.taken  # and the number of octets after these: 0 where all was read
+        # What is read: without path identifiers, where routes have them.
+        self._plain: typing.Optional[Plain] = None
+        given, by = whole, context
+        if self.terms is not None and self.terms.has_paths():
+            self._plain, by = without_paths(whole, self.terms), self.terms.plain()
+            given = self._plain.octets
+        batch = read("routes", given, by)
+        self._given, self._given_by = given[: batch.taken], by
+        taken = batch.taken
+        if self._plain is not None:
+            batch.rows["path"] = self._plain.paths[: batch.rows.size]
+            taken = int(self._plain.starts[self._plain.places.searchsorted(taken)])
+        self.taken = taken  # the total length of the messages that were read
+        self.rest = whole.size - taken  # and the number of octets after these: 0 where all was read
         # The message that resets the session, or the header with a fault; None where there is none.
-        self.reset = judge(whole[batch.taken :], context, batch.taken) if batch.status == REFUSED else None
-        self._octets, self._by, self._rows = whole, context, {"routes": batch.rows}
+        self.reset = judge(whole[taken:], context, taken) if batch.status == REFUSED else None
+        self._octets, self._by, self._rows = whole, context, {"routes": self._placed(batch.rows)}
 
     def __repr__(self) -> str:
         return f"<ristulva.Table: {self.routes.size} routes in {self.taken} octets>"
+
+    def _placed(self, rows: Rows) -> Rows:
+        """Rows of what was read, with the offsets of their messages in the stream."""
+        if self._plain is not None:
+            rows["message"] = self._plain.starts[self._plain.places.searchsorted(rows["message"])]
+        return rows
 
     def _read(self, kind: str) -> Rows:
         """The rows of a kind, which are read where that wasn't done. Threads that ask at one time may both read: all get the same rows."""
         rows = self._rows.get(kind)
         if rows is None:
-            rows = self._rows.setdefault(kind, read(kind, self._octets[: self.taken], self._by).rows)
+            rows = self._rows.setdefault(kind, self._placed(read(kind, self._given, self._given_by).rows))
         return rows
+
+    def _loses_ip6(self) -> bool:
+        """Whether an UPDATE has attributes of IPv6 unicast, and the context has not."""
+        starts = self.routes["message"].copy() if self._plain is None else self._plain.places
+        return not self.context.ip6 and loses_ip6(self._given, self.context, starts)
 
     @property
     def routes(self) -> Rows:
@@ -192,7 +244,8 @@ class Table:
         `message`; `afi` (1 for IPv4, 2 for IPv6) and `length` of its prefix, whose address is `high`, its upper 64 bits, and `low`, the others; an IPv4
         address is the upper half of `high`. `announced`, else it is withdrawn; `verdict`, 2 where the UPDATE is accepted, 5 where it is treated as a
         withdrawal. Of what is announced `origin_as`, its origin AS, where `has_origin_as` is set, as `Facts.origin_as`; and
-        the spans of the values of `as_path`, `as4_path`, `communities` and `large_communities`, each as `at`, the offset in the message, and `len`."""
+        the spans of the values of `as_path`, `as4_path`, `communities` and `large_communities`, each as `at`, the offset in the message, and `len`. `path`
+        is its path identifier (RFC 7911): 0 where its family has none by the terms, and in a context. Spans are then of `Message.octets`, without these."""
         return self._read("routes")
 
     @property
@@ -221,8 +274,8 @@ class Table:
 
 def table(octets: typing.Any, context: By) -> Table:
     """The routes of a stream, and what is reported of them, up to the first message that resets the session. `octets` is bytes or any other buffer, as a
-    mapped file; it isn't copied. It needs numpy. By Terms a ROUTE-REFRESH that its reader accepts has no rows, and what follows it is read; ValueError is
-    raised where routes have path identifiers.
+    mapped file; it isn't copied. It needs numpy. By Terms a ROUTE-REFRESH that its reader accepts has no rows, and what follows it is read; where routes have
+    path identifiers, each message is copied without them first, which takes longer.
 
     Where the stream ends inside a message, a warning `Incomplete` has the number of its octets. Where a message resets the session, a warning
     `Reset` says where, and `Table.reset` is that message. Where UPDATEs have attributes of IPv6 unicast, and the context no `ip6`,
@@ -236,7 +289,7 @@ def table(octets: typing.Any, context: By) -> Table:
         warnings.warn(f"the message at octet {found.taken} resets the session: {found.rest} octets aren't read", Reset, stacklevel=2)
     elif found.rest:
         warnings.warn(f"the stream ends inside a message, of which it has {found.rest} octets", Incomplete, stacklevel=2)
-    if not found.context.ip6 and loses_ip6(found._octets[: found.taken], found.context, found.routes["message"].copy()):
+    if found._loses_ip6():
         warnings.warn("an UPDATE has attributes of IPv6 unicast, and its context no ip6", FamilyNotAgreed, stacklevel=2)
     return found
 

@@ -9,7 +9,7 @@ pub enum Error {
     Memory,
     /// A body has more than [`BODY`](crate::BODY) octets.
     TooLong,
-    /// An UPDATE isn't accepted, or some of it would be discarded.
+    /// An UPDATE isn't accepted, or some of it would be discarded; or a header has a fault.
     Refused,
     /// An UPDATE has routes of several kinds, which a session doesn't send (RFC 7606, section 5.1).
     Mixed,
@@ -22,7 +22,8 @@ pub enum Error {
     State,
     /// There is room for less than [`ROWS`](crate::ROWS) rows.
     Room,
-    /// By [`Terms`](crate::Terms) routes have path identifiers, which no call reads.
+    /// By [`Terms`](crate::Terms) routes have path identifiers, which this call doesn't read:
+    /// [`without_paths`](crate::without_paths) takes them from a message.
     Paths,
 }
 
@@ -53,7 +54,7 @@ impl fmt::Display for Error {
             Error::Config => "the configuration isn't allowed",
             Error::State => "the session isn't in a state for this",
             Error::Room => "there is less room than one message may need",
-            Error::Paths => "routes have path identifiers, which no call reads",
+            Error::Paths => "routes have path identifiers, which this call doesn't read",
         })
     }
 }

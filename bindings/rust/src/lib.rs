@@ -52,6 +52,7 @@ mod note;
 pub mod numbers;
 mod open;
 mod path;
+mod paths;
 mod prefix;
 #[allow(unsafe_code)]
 mod raw;
@@ -78,6 +79,7 @@ pub use message::{judge, messages, Message, Messages, Outcome};
 pub use note::{Note, Notes, Why};
 pub use open::{Capabilities, Capability, Open};
 pub use path::{Numbers, Segment, SegmentKind, Segments};
+pub use paths::{paths, without_paths, PATHS};
 pub use prefix::{NextHop, Prefix, Prefixes, Shown};
 pub use refresh::{
     encode_refresh, front_in, judge_in, messages_in, MessageIn, MessagesIn, Refresh,

@@ -121,6 +121,8 @@ extern "C" {
     fn ristulva_text_in(terms: *const Terms, place: u64, octets: *const u8, len: usize, text: *mut c_char, room: usize, written: *mut usize) -> u32;
     fn ristulva_refresh_in(terms: *const Terms, octets: *const u8, len: usize, out: *mut Refresh) -> u32;
     fn ristulva_encode_refresh(afi: u16, safi: u8, subtype: u8, message: *mut u8, room: usize, written: *mut usize) -> u32;
+    fn ristulva_without_paths(terms: *const Terms, octets: *const u8, len: usize, message: *mut u8, room: usize, written: *mut usize) -> u32;
+    fn ristulva_paths(terms: *const Terms, octets: *const u8, len: usize, paths: *mut u32, room: usize, written: *mut usize) -> u32;
     fn ristulva_decoder_new(context: *const Context, decoder: *mut Handle) -> u32;
     fn ristulva_decoder_free(decoder: *mut Handle) -> u32;
     fn ristulva_decoder_pull(decoder: *mut Handle, octets: *const u8, len: usize, message: *mut u8, message_room: usize, data: *mut u8, room: usize, taken: *mut usize, out: *mut Verdict) -> u32;
@@ -546,6 +548,26 @@ pub fn encode_refresh(afi: u16, safi: u8, subtype: u8) -> [u8; REFRESH_MESSAGE] 
     // SAFETY: see above. There is room for it.
     unsafe { ristulva_encode_refresh(afi, safi, subtype, into, room, &mut written) };
     message
+}
+
+/// The status, and the length of the message where that is OK or ROOM.
+pub fn without_paths(terms: &Terms, octets: &[u8], message: &mut [u8]) -> (u32, usize) {
+    let mut written = 0;
+    let (at, len) = (octets.as_ptr(), octets.len());
+    let (into, room) = (message.as_mut_ptr(), message.len());
+    // SAFETY: see above.
+    let status = unsafe { ristulva_without_paths(terms, at, len, into, room, &mut written) };
+    (status, written)
+}
+
+/// The status, and the number of path identifiers where that is OK or ROOM.
+pub fn paths(terms: &Terms, octets: &[u8], paths: &mut [u32]) -> (u32, usize) {
+    let mut written = 0;
+    let (at, len) = (octets.as_ptr(), octets.len());
+    let (into, room) = (paths.as_mut_ptr(), paths.len());
+    // SAFETY: see above.
+    let status = unsafe { ristulva_paths(terms, at, len, into, room, &mut written) };
+    (status, written)
 }
 
 /// Room that is enough for each name.

@@ -26,9 +26,10 @@ pub struct Terms {
     pub long_messages: bool,
     /// The sender does: NOTIFICATIONs to it may be that long.
     pub long_back: bool,
-    /// IPv4 unicast routes have path identifiers (capability 69; RFC 7911): no call reads them.
+    /// IPv4 unicast routes have path identifiers (capability 69; RFC 7911):
+    /// [`paths`](crate::paths) reads them.
     pub paths4: bool,
-    /// IPv6 unicast routes have path identifiers: no call reads them.
+    /// IPv6 unicast routes have path identifiers.
     pub paths6: bool,
     /// IPv4 unicast routes may have an IPv6 next hop (capability 5; RFC 8950).
     pub hop6: bool,

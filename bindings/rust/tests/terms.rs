@@ -1,9 +1,9 @@
 //! Terms and ROUTE-REFRESH: values by hand (RFC 2918; RFC 7313).
 
 use ristulva::{
-    encode_refresh, front, front_in, judge, judge_in, messages_in, terms_of, AgreedTerms, Context,
-    Decoder, DecoderIn, Error, Front, Kind, KindIn, MessageIn, Outcome, Refresh, RefreshOutcome,
-    Refreshes, RouteRefresh, Subtype, Terms, REFRESH_MESSAGE,
+    encode_refresh, front, front_in, judge, judge_in, messages_in, paths, terms_of, without_paths,
+    AgreedTerms, Context, Decoder, DecoderIn, Error, Front, Kind, KindIn, MessageIn, Outcome,
+    Refresh, RefreshOutcome, Refreshes, RouteRefresh, Subtype, Terms, REFRESH_MESSAGE,
 };
 
 const CONTEXT: Context = Context {
@@ -106,7 +106,7 @@ fn what_is_not_an_open() {
     }
 }
 
-/// No message is read where routes have path identifiers, whatever the octets are.
+/// No message is judged where routes have path identifiers, whatever the octets are.
 #[test]
 fn path_identifiers() {
     let (paths4, paths6) = (true, true);
@@ -120,7 +120,49 @@ fn path_identifiers() {
         assert_eq!(DecoderIn::new(&terms).err(), Some(Error::Paths));
     }
     let told = Error::Paths.to_string();
-    assert_eq!(told, "routes have path identifiers, which no call reads");
+    assert_eq!(
+        told,
+        "routes have path identifiers, which this call doesn't read"
+    );
+}
+
+/// Path 9 of 2001:db8::/32 and path 1 of 10.0.0.0/8, by 192.0.2.1 and 2001:db8::1.
+const WITH_PATHS: &[u8] = &[
+    0, 0, 0, 53, 64, 1, 1, 0, 64, 2, 6, 2, 1, 0, 0, 0xfd, 0xe8, 64, 3, 4, 192, 0, 2, 1, 128, 14,
+    30, 0, 2, 1, 16, 0x20, 1, 0xd, 0xb8, 0, 0, 0, 0, 0, 0, 0, 0, 0, 0, 0, 1, 0, 0, 0, 0, 9, 32,
+    0x20, 1, 0xd, 0xb8, 0, 0, 0, 1, 8, 10,
+];
+
+/// A message without path identifiers, and these beside its routes (RFC 7911, section 3).
+#[test]
+fn paths_beside_routes() {
+    let octets = message(2, WITH_PATHS);
+    let (paths4, paths6) = (true, true);
+    let both = Terms {
+        paths4,
+        paths6,
+        ..terms(Refreshes::None)
+    };
+    let plain = without_paths(&both, &octets).unwrap().expect("a message");
+    assert_eq!(plain.len() + 8, octets.len());
+    let judged = judge(&CONTEXT, &plain).expect("a message");
+    assert_eq!(judged.routes().count(), 2);
+    assert_eq!(paths(&both, &octets), Ok(Some(vec![9, 1])));
+    assert_eq!(paths(&terms(Refreshes::None), &plain), Ok(Some(vec![0, 0])));
+    assert_eq!(paths(&both, &octets[..30]), Ok(None));
+    assert_eq!(without_paths(&both, &octets[..30]), Ok(None));
+    let keepalive = message(4, &[]);
+    assert_eq!(
+        without_paths(&both, &keepalive),
+        Ok(Some(keepalive.clone()))
+    );
+    assert_eq!(paths(&both, &keepalive), Ok(Some(vec![])));
+    // A type that isn't offered, and an identifier without a prefix.
+    let request = message(5, &[0, 1, 0, 1]);
+    assert_eq!(without_paths(&both, &request), Err(Error::Refused));
+    assert_eq!(paths(&both, &request), Err(Error::Refused));
+    let cut = message(2, &[0, 4, 0, 0, 0, 1, 0, 0]);
+    assert_eq!(paths(&both, &cut), Err(Error::Refused));
 }
 
 #[test]

@@ -12,7 +12,8 @@
  *  - What a call writes (`out`, `cursor`, a buffer, a length) overlaps nothing else that it is given.
  *  - Octets are `const uint8_t *octets, size_t len`. A message has at most 4096 of them (RFC 4271, section 4.1).
  *  - It answers a status. Where that isn't RISTULVA_OK, what this header says of each status holds.
- *  - 32 KB of stack are enough, and 56 KB for ristulva_session_send, ristulva_clean, ristulva_guard_new and ristulva_guard_hear.
+ *  - 32 KB of stack are enough, and 56 KB for ristulva_session_send, ristulva_clean, ristulva_judge_paths, ristulva_guard_new and
+ *    ristulva_guard_hear.
  *
  * Positions are offsets into the caller's buffer: a message is viewed there, and nothing is copied.
  */
@@ -782,8 +783,8 @@ ristulva_status ristulva_next_capability(const uint8_t *octets, size_t len, rist
 
 /* Reports what two speakers agree on, given the octets of their OPENs; octets after the OPENs are ignored. That is the context of their session,
  * and its Hold Time in seconds, 0 for none, as each speaker finds them from its own OPEN and the other's, and as `bgp show --opens` does. Neither
- * OPEN is refused for what it says: a caller refuses a direction for which both agree on path identifiers (capability 69; RFC 7911), since no call
- * reads its routes. It allocates nothing. Each field of the context is 0 or 1.
+ * OPEN is refused for what it says: where both agree on path identifiers for a direction (capability 69; RFC 7911), its messages are read by
+ * ristulva_terms_of, and ristulva_without_paths before each other call. It allocates nothing. Each field of the context is 0 or 1.
  *
  * RISTULVA_INCOMPLETE, RISTULVA_REFUSED: as by ristulva_open, for the first of the two that isn't accepted. Nothing is written. */
 ristulva_status ristulva_agree(const uint8_t *ours, size_t ours_len, const uint8_t *theirs, size_t theirs_len, ristulva_context *context,
@@ -795,8 +796,8 @@ ristulva_status ristulva_agree(const uint8_t *ours, size_t ours_len, const uint8
  * reader offers that; by a context alone its type, 5, is a bad message type. All other messages are read in `context`, which the other calls of this
  * header take. A message has at most RISTULVA_MESSAGE octets, whatever is agreed on.
  *
- * A call that takes terms answers RISTULVA_RANGE, and writes nothing, where `refresh` is none of the numbers below, or routes have path identifiers,
- * which no call reads.
+ * A call that takes terms answers RISTULVA_RANGE, and writes nothing, where `refresh` is none of the numbers below; and where routes have path
+ * identifiers, but for ristulva_judge_paths, ristulva_without_paths and ristulva_paths.
  */
 
 /* Which ROUTE-REFRESH the reader accepts. */
@@ -865,6 +866,46 @@ ristulva_status ristulva_encode_refresh(uint16_t afi, uint8_t safi, uint8_t subt
 
 /* The length of a ROUTE-REFRESH that is written. */
 #define RISTULVA_REFRESH_MESSAGE 23u
+
+/* ---- path identifiers (ADD-PATH; RFC 7911) ----
+ *
+ * Where both speakers agree on it, each IPv4 or IPv6 unicast route of a direction is preceded by a path identifier of four octets, by which a speaker
+ * announces more than one path to a prefix. Such a message is judged by ristulva_judge_paths. ristulva_without_paths writes it without the identifiers,
+ * for each call that takes a context, or terms without `paths4` and `paths6`; and ristulva_paths lists them, beside the routes that those calls report.
+ */
+
+/* Judges the first message of the octets by these terms: an UPDATE without the path identifiers of its routes, each other message as ristulva_judge_in
+ * does. `len` and the parts are those of the octets as they are, and an attribute that is data of the NOTIFICATION is the one that was received
+ * (RFC 7606, section 5.3). The calls on attributes and routes take what ristulva_without_paths writes, not these octets.
+ *
+ * RISTULVA_RANGE; RISTULVA_INCOMPLETE, RISTULVA_ROOM: as by ristulva_judge. */
+ristulva_status ristulva_judge_paths(const ristulva_terms *terms, const uint8_t *octets, size_t len, uint8_t *data, size_t room,
+                                     ristulva_verdict *out);
+
+/* Writes the first message of the octets to the beginning of `message`, which has room for `room` octets: RISTULVA_MESSAGE are enough, and it is no
+ * longer than it was. The rest of the buffer is unchanged. `written` is its length. An UPDATE is written without the path identifiers of the families
+ * that have them by these terms: those of IPv4 in Withdrawn Routes, MP_UNREACH_NLRI, MP_REACH_NLRI and NLRI, those of IPv6 in the two attributes. Its
+ * lengths are those of what is left, and all else is as it was. Octets after the last whole route of a field become one octet, 255: with it no
+ * prefix begins, and the outcome is that of the fault (RFC 7606, section 5.3), but an attribute that is data of a NOTIFICATION is that without
+ * identifiers: ristulva_judge_paths has it as it was received. Where the lengths of an UPDATE leave no room for each other, it is as it was; so is each
+ * other message. The UPDATE isn't judged, and the context of the terms has no effect. It allocates nothing.
+ *
+ * RISTULVA_RANGE, RISTULVA_INCOMPLETE; RISTULVA_REFUSED, the header has a fault: nothing is written. RISTULVA_ROOM: `written` is, with the room that
+ * is needed; `message` isn't. */
+ristulva_status ristulva_without_paths(const ristulva_terms *terms, const uint8_t *octets, size_t len, uint8_t *message, size_t room,
+                                       size_t *written);
+
+/* The most routes of a message. */
+#define RISTULVA_PATHS 4073u
+
+/* Lists the path identifiers of the routes of the first message of the octets, at the beginning of `paths`, which has room for `room` of them:
+ * RISTULVA_PATHS are enough. The rest of the list is unchanged. `written` is their number: one for each route that ristulva_next_route and
+ * ristulva_routes give of the message that ristulva_without_paths writes, in the context of the terms, in the same order; 0 for a route whose family
+ * has none (an identifier may be 0 too). Another message than an UPDATE has no routes. It allocates nothing.
+ *
+ * RISTULVA_RANGE, RISTULVA_INCOMPLETE; RISTULVA_REFUSED, the header has a fault, or the UPDATE is RISTULVA_RESET without path identifiers: nothing is
+ * written. RISTULVA_ROOM: `written` is, with the room that is needed; `paths` isn't. */
+ristulva_status ristulva_paths(const ristulva_terms *terms, const uint8_t *octets, size_t len, uint32_t *paths, size_t room, size_t *written);
 
 /* ---- a stream in pieces (RFC 4271, section 4.1) ----
  *
@@ -1501,6 +1542,30 @@ ristulva_inline_ ristulva_status ristulva_encode_refresh(uint16_t afi, uint8_t s
 {
     uint64_t nothing = 0;
     return ristulva_linked_encode_refresh(afi, safi, subtype, ristulva_place_(uint8_t, message, room), room, written);
+}
+
+extern __typeof__(ristulva_judge_paths) ristulva_linked_judge_paths __asm__("ristulva_judge_paths");
+ristulva_inline_ ristulva_status ristulva_judge_paths(const ristulva_terms *terms, const uint8_t *octets, size_t len, uint8_t *data, size_t room,
+                                                      ristulva_verdict *out)
+{
+    uint64_t nothing = 0;
+    return ristulva_linked_judge_paths(terms, ristulva_given_(octets, len), len, ristulva_place_(uint8_t, data, room), room, out);
+}
+
+extern __typeof__(ristulva_without_paths) ristulva_linked_without_paths __asm__("ristulva_without_paths");
+ristulva_inline_ ristulva_status ristulva_without_paths(const ristulva_terms *terms, const uint8_t *octets, size_t len, uint8_t *message, size_t room,
+                                                        size_t *written)
+{
+    uint64_t nothing = 0;
+    return ristulva_linked_without_paths(terms, ristulva_given_(octets, len), len, ristulva_place_(uint8_t, message, room), room, written);
+}
+
+extern __typeof__(ristulva_paths) ristulva_linked_paths __asm__("ristulva_paths");
+ristulva_inline_ ristulva_status ristulva_paths(const ristulva_terms *terms, const uint8_t *octets, size_t len, uint32_t *paths, size_t room,
+                                                size_t *written)
+{
+    uint64_t nothing = 0;
+    return ristulva_linked_paths(terms, ristulva_given_(octets, len), len, ristulva_place_(uint32_t, paths, room), room, written);
 }
 
 extern __typeof__(ristulva_decoder_pull) ristulva_linked_decoder_pull __asm__("ristulva_decoder_pull");

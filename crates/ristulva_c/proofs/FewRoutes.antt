@@ -11,7 +11,7 @@ use Rattle.ristulva_c.proofs.KeptPlaces.{reach_first, unreach_first}
 use Rattle.ristulva_c.proofs.Outcomes.{by_kind}
 use Rattle.ristulva_c.proofs.RouteLists.{reach_run, unreach_run}
 
-few_prefixes : (width : ℕ) (b : List ℕ) → length (run_of width b).0 ≤ length b
+pub few_prefixes : (width : ℕ) (b : List ℕ) → length (run_of width b).0 ≤ length b
 few_prefixes width b = not_more PrefixValue (IsPrefix width) (one_prefix width) (IsPrefix-reads width) b
 
 -- ---- attributes of two types

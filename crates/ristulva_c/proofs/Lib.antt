@@ -12,7 +12,10 @@ pub mod Encodings
 pub mod Outcomes
 pub mod PartPlaces
 pub mod JudgedIn
+pub mod JudgedPaths
 pub mod Refreshes
+pub mod PlainLengths
+pub mod PlainMessages
 pub mod Streams
 pub mod TermsSaid
 pub mod NoteSteps
@@ -38,5 +41,6 @@ pub mod RouteRows
 pub mod FieldKindRows
 pub mod Rows
 pub mod Batches
+pub mod PathCounts
 pub mod FieldSteps
 pub mod NotePlaces

@@ -221,22 +221,28 @@ module _ (octets : List ℕ) (p : Parts) (lies : Lie octets p (parts_told (Some 
     abbrev kept : List Attr
     kept = kept_of (marks_of ctx p)
 
-    all_left : (a l : Bool) → routes_left octets (cursor_of ctx a l p) ≡ routes_of a (update_of p (marks_of ctx p))
+    -- the routes of each
+    pub unreached_left : (a l : Bool) → field_routes false octets (cursor_of ctx a l p).unreached ≡ unreached_routes (attrs_of kept).mp_unreach
     unfolding attrs_from
+    unreached_left a l = unreach_found.gives ∙ ap (λ (o : Option Attr). unreached_routes (o >>= as_mp_unreach)) (sym (slot_first ctx nlri MP_UNREACH_NLRI p.attributes))
+
+    pub reached_left : (a l : Bool) → field_routes a octets (cursor_of ctx a l p).reached ≡ reached_routes a (attrs_of kept).mp_reach
+    unfolding attrs_from
+    reached_left a l = (reach_found a).gives ∙ ap (λ (o : Option Attr). reached_routes a (o >>= as_mp_reach)) (sym (slot_first ctx nlri MP_REACH_NLRI p.attributes))
+
+    pub withdrawn_left : (a l : Bool) → prefixes_left octets (cursor_of ctx a l p).withdrawn ≡ (run_of 4 p.withdrawn).0
+    withdrawn_left a l = run_left octets 21 (length p.withdrawn) ∙ ap (λ (x : List ℕ). (run_of 4 x).0) lies.withdrawn
+
+    pub nlri_left : (a l : Bool) → prefixes_left octets (cursor_of ctx a l p).nlri ≡ (run_of 4 p.nlri).0
+    nlri_left a l = run_left octets (field + length p.attributes) (length p.nlri) ∙ ap (λ (x : List ℕ). (run_of 4 x).0) lies.nlri
+
+    all_left : (a l : Bool) → routes_left octets (cursor_of ctx a l p) ≡ routes_of a (update_of p (marks_of ctx p))
     all_left a l =
-        let gone : field_routes false octets (cursor_of ctx a l p).unreached ≡ unreached_routes (attrs_of kept).mp_unreach =
-        unreach_found.gives ∙ ap (λ (o : Option Attr). unreached_routes (o >>= as_mp_unreach)) (sym (slot_first ctx nlri MP_UNREACH_NLRI p.attributes)) in
-        let come : field_routes a octets (cursor_of ctx a l p).reached ≡ reached_routes a (attrs_of kept).mp_reach =
-        (reach_found a).gives ∙ ap (λ (o : Option Attr). reached_routes a (o >>= as_mp_reach)) (sym (slot_first ctx nlri MP_REACH_NLRI p.attributes)) in
-        let w : field_routes false octets (cursor_of ctx a l p).withdrawn ≡ routes_to false IPV4 (run_of 4 p.withdrawn).0 =
-        ap (routes_to false IPV4) (run_left octets 21 (length p.withdrawn) ∙ ap (λ (x : List ℕ). (run_of 4 x).0) lies.withdrawn) in
-        let n : field_routes a octets (cursor_of ctx a l p).nlri ≡ routes_to a IPV4 (run_of 4 p.nlri).0 =
-        ap (routes_to a IPV4) (run_left octets (field + length p.attributes) (length p.nlri) ∙ ap (λ (x : List ℕ). (run_of 4 x).0) lies.nlri) in
         ap (λ (b : Bool). field_routes false octets (cursor_of ctx a l p).withdrawn ++ (field_routes false octets (cursor_of ctx a l p).unreached
         ++ (field_routes b octets (cursor_of ctx a l p).reached ++ field_routes b octets (cursor_of ctx a l p).nlri))) (is_one a)
-        ∙ ap₂ ◌++◌ w (ap₂ ◌++◌ gone (ap₂ ◌++◌ come n))
+        ∙ ap₂ ◌++◌ (ap (routes_to false IPV4) (withdrawn_left a l)) (ap₂ ◌++◌ (unreached_left a l) (ap₂ ◌++◌ (reached_left a l) (ap (routes_to a IPV4) (nlri_left a l))))
 
-    all_lie : (a l : Bool) → IsRouteCursor octets (cursor_of ctx a l p)
+    pub all_lie : (a l : Bool) → IsRouteCursor octets (cursor_of ctx a l p)
     all_lie a l = record {
       withdrawn = record { within = record { in_order = omega arith; within = omega (arith, room) }; known = inl refl };
       unreached = unreach_found.cursor;

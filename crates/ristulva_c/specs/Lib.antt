@@ -36,7 +36,9 @@ pub mod Agree
 pub mod Terms
 pub mod FrontIn
 pub mod JudgeIn
+pub mod JudgePaths
 pub mod Refresh
+pub mod Paths
 pub mod Stream
 pub mod TextIn
 pub mod Sending

@@ -29,10 +29,13 @@ number_of_refreshes refreshes.Enhanced = REFRESH_ENHANCED
 abbrev pub with_refreshes : Context → Refreshes → Agreed
 with_refreshes ctx r = record (plain_terms ctx) { refresh = r }
 
--- the terms by which messages are read: none where the number of `refresh` is unknown, or routes have path identifiers, which nothing reads
+-- the terms by which messages without path identifiers are read: none where the number of `refresh` is unknown
+abbrev pub plain_terms_in : SessionTerms → Option Agreed
+plain_terms_in said = option_map (with_refreshes (context_of said.context)) (refreshes_in said.refresh)
+
+-- those by which messages are judged: none where routes have path identifiers too, without which a message is written before it is judged
 abbrev pub terms_in : SessionTerms → Option Agreed
-terms_in said =
-    if is_set said.paths4 || is_set said.paths6 then None else option_map (with_refreshes (context_of said.context)) (refreshes_in said.refresh)
+terms_in said = if is_set said.paths4 || is_set said.paths6 then None else plain_terms_in said
 
 abbrev pub terms_said : Agreed → SessionTerms
 terms_said t = record {

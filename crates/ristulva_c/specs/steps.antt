@@ -5,7 +5,9 @@ pub mod OriginAs
 pub mod Agree
 pub mod Terms
 pub mod JudgeIn
+pub mod JudgePaths
 pub mod Refresh
+pub mod Paths
 pub mod Batch
 pub mod RouteRows
 pub mod NumberRows

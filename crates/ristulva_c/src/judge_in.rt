@@ -71,7 +71,7 @@ pub(crate) fn tell_refresh(
 
 /// Writes the outcome of a whole message.
 #[tactic(auto, using(crate::proofs::JudgedIn::allowed))]
-fn tell_any(
+pub(crate) fn tell_any(
     ctx: &SessionContext,
     refreshes: Refreshes,
     frame: Frame<'_, WideKind>,

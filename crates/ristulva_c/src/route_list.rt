@@ -217,7 +217,7 @@ fn cursor_of(
 }
 
 /// A cursor at the first of an UPDATE's routes, where its lengths leave room for each other.
-fn cursor_in(ctx: &Context, announces: bool, body: &[u8]) -> RouteCursor
+pub(crate) fn cursor_in(ctx: &Context, announces: bool, body: &[u8]) -> RouteCursor
     requires { length body.now ≤ 4077 }
     ensures { (p : Parts) → parts_of body.now ≡ Some p → result ≡ cursor_of ctx.now announces (not ctx.now.ip6 && carries_ip6 (Some p)) p }
 {

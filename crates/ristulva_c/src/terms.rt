@@ -6,7 +6,7 @@ ghost use Rattle.bgp_open.specs.declared.message.Open.{Open};
 ghost use Rattle.bgp_terms.specs.Prelude.{wide_terms};
 ghost use Rattle.ristulva_c.specs.Agree.{or_refused};
 ghost use Rattle.ristulva_c.specs.Prelude.{accepted_in, context_of};
-ghost use Rattle.ristulva_c.specs.Terms.{AreTerms, TermsBy, number_of_refreshes, refreshes_in, terms_in, terms_said};
+ghost use Rattle.ristulva_c.specs.Terms.{AreTerms, TermsBy, number_of_refreshes, plain_terms_in, refreshes_in, terms_in, terms_said};
 ghost use Rattle.ristulva_c.specs.steps.Terms.{AreOffers, AreOffersAt};
 
 use crate::agreed::context_said;
@@ -69,7 +69,18 @@ fn number_of_refreshes(refreshes: Refreshes) -> u8
     }
 }
 
-/// The terms by which messages are read: none where a number is unknown, or routes have path identifiers.
+/// The terms by which messages without path identifiers are read: none where a number is unknown.
+pub(crate) fn plain_terms_in(said: &SessionTerms) -> Option<WideTerms>
+    ensures value { option_map wide_terms result ≡ plain_terms_in said.now }
+    ensures context { IfSome result (λ terms. terms.context ≡ context_of said.now.context) }
+{
+    match refreshes_in(said.refresh) {
+        Some(refreshes) => Some(WideTerms::with_refresh(context_of(&said.context), refreshes)),
+        None => None,
+    }
+}
+
+/// The terms by which messages are judged: none where a number is unknown, or routes have path identifiers.
 pub(crate) fn terms_in(said: &SessionTerms) -> Option<WideTerms>
     ensures value { option_map wide_terms result ≡ terms_in said.now }
     ensures context { IfSome result (λ terms. terms.context ≡ context_of said.now.context) }
@@ -77,10 +88,7 @@ pub(crate) fn terms_in(said: &SessionTerms) -> Option<WideTerms>
     if said.paths4 != 0 || said.paths6 != 0 {
         return None;
     }
-    match refreshes_in(said.refresh) {
-        Some(refreshes) => Some(WideTerms::with_refresh(context_of(&said.context), refreshes)),
-        None => None,
-    }
+    plain_terms_in(said)
 }
 
 /// Terms in C's form.

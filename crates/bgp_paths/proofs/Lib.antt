@@ -1,0 +1,5 @@
+-- Path identifiers.
+pub mod Routes
+pub mod Lengths
+pub mod FirstRuns
+pub mod Same

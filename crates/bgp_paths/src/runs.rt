@@ -1,0 +1,135 @@
+//! The path identifiers of a message's routes.
+
+ghost use Rattle.std.specs.Prelude.{◌≡◌, ◌≤◌};
+ghost use Rattle.bgp_paths.specs.Route.{path_prefixes};
+ghost use Rattle.bgp_attr.specs.Prelude.{tlv_value};
+ghost use Rattle.bgp_paths.specs.Runs.{AreRuns, attribute_run, field_run, first_or_zero, later_of, numbers_of, run_of_type, runs_value};
+
+use crate::changing::head_length;
+use crate::families::{PathFamilies, Width};
+use crate::plain_body::split_body;
+use crate::route::first_path_prefix;
+use bgp_attr::{Tlv, TlvIter};
+use bgp_numbers::attribute::{MP_REACH_NLRI, MP_UNREACH_NLRI};
+
+/// Routes with path identifiers, or none.
+#[derive(Clone, Copy)]
+pub enum PathRun<'a> {
+    /// None.
+    Empty,
+    /// Those of IPv4 that octets begin with.
+    Ip4(&'a [u8]),
+    /// Those of IPv6.
+    Ip6(&'a [u8]),
+}
+
+/// The routes of a message with path identifiers, by their part of the message.
+#[derive(Clone, Copy)]
+pub struct PathRuns<'a> {
+    /// Those of Withdrawn Routes.
+    pub withdrawn: PathRun<'a>,
+    /// Those of the first MP_UNREACH_NLRI.
+    pub unreached: PathRun<'a>,
+    /// Those of the first MP_REACH_NLRI.
+    pub reached: PathRun<'a>,
+    /// Those of Network Layer Reachability Information.
+    pub nlri: PathRun<'a>,
+}
+
+/// The first path identifier of routes, 0 where there is none, and the octets of the routes after it.
+fn first_path<const W: usize>(octets: &[u8]) -> (u32, &[u8])
+    requires { W ≤ 16 }
+    ensures number { result.0 ≡ first_or_zero (numbers_of (path_prefixes W octets.entry.now)) }
+    ensures later { numbers_of (path_prefixes W result.1.now) ≡ later_of (numbers_of (path_prefixes W octets.entry.now)) }
+{
+    match first_path_prefix::<W>(octets) {
+        None => (0, octets),
+        Some((route, after)) => (route.path, after),
+    }
+}
+
+impl<'a> PathRun<'a> {
+    ghost use Rattle.bgp_paths.specs.Runs.{first_or_zero, later_of, numbers_left};
+
+    /// The path identifier of the first route, which is no longer one of them: 0 where there is none.
+    pub fn step(&mut self) -> u32
+        ensures number { result ≡ first_or_zero (numbers_left self.old) }
+        ensures later { numbers_left self.new ≡ later_of (numbers_left self.old) }
+    {
+        match self {
+            PathRun::Empty => 0,
+            PathRun::Ip4(octets) => {
+                let (path, after) = first_path::<4>(octets);
+                *octets = after;
+                path
+            }
+            PathRun::Ip6(octets) => {
+                let (path, after) = first_path::<16>(octets);
+                *octets = after;
+                path
+            }
+        }
+    }
+}
+
+/// A run of IPv4 routes outside of attributes.
+fn field_run(paths: bool, octets: &[u8]) -> PathRun<'_>
+    ensures { runs_value result ≡ field_run paths octets.entry.now }
+{
+    if paths {
+        PathRun::Ip4(octets)
+    } else {
+        PathRun::Empty
+    }
+}
+
+/// The routes of an attribute.
+fn attribute_run<'a>(families: PathFamilies, tlv: &Tlv<'a>) -> PathRun<'a>
+    ensures { runs_value result ≡ attribute_run families (tlv_value tlv.now) }
+{
+    let Some(head) = head_length(tlv) else {
+        return PathRun::Empty;
+    };
+    let Some((_, routes)) = tlv.value.split_at_checked(head) else {
+        return PathRun::Empty;
+    };
+    match families.identified(tlv.value) {
+        None => PathRun::Empty,
+        Some(Width::Ip4) => PathRun::Ip4(routes),
+        Some(Width::Ip6) => PathRun::Ip6(routes),
+    }
+}
+
+/// The routes of the first attribute of a type.
+fn first_run(families: PathFamilies, field: &[u8], kind: u8) -> PathRun<'_>
+    ensures { runs_value result ≡ run_of_type families field.entry.now kind }
+{
+    let mut tlvs = TlvIter::new(field);
+    'field: while let Some(tlv) = tlvs.next() {
+        if tlv.kind == kind {
+            return attribute_run(families, &tlv);
+        }
+    }
+    PathRun::Empty
+}
+
+/// The routes of the body of an UPDATE that have path identifiers, where those of these families do. Where a verdict on the body lets the session
+/// continue, there is at most one MP_REACH_NLRI and one MP_UNREACH_NLRI (RFC 7606, section 3, item g).
+pub fn path_runs(families: PathFamilies, body: &[u8]) -> PathRuns<'_>
+    ensures { AreRuns families body.entry.now result }
+{
+    match split_body(body) {
+        None => PathRuns {
+            withdrawn: PathRun::Empty,
+            unreached: PathRun::Empty,
+            reached: PathRun::Empty,
+            nlri: PathRun::Empty,
+        },
+        Some((withdrawn, attributes, nlri)) => PathRuns {
+            withdrawn: field_run(families.ip4, withdrawn),
+            unreached: first_run(families, attributes, MP_UNREACH_NLRI),
+            reached: first_run(families, attributes, MP_REACH_NLRI),
+            nlri: field_run(families.ip4, nlri),
+        },
+    }
+}
