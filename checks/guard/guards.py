@@ -1,6 +1,7 @@
 """Runs of the guard's program and of what is at its two sides: bgp_speaker, and peers that a script plays."""
 import json
 import pathlib
+import signal
 import socket
 import subprocess
 import sys
@@ -23,13 +24,18 @@ def free_port(host=LOOPBACK):
         return found.getsockname()[1]
 
 
+def with_hangups():
+    """Takes SIGHUP as a service does: what runs by nohup ignores it, and a shell can't trap a signal that is ignored where it begins."""
+    signal.signal(signal.SIGHUP, signal.SIG_DFL)
+
+
 class Run:
     """A program that runs, with the lines that it prints."""
 
     def __init__(self, words, env=None, feeds=False):
         self.lines = []
         how = {"stdout": subprocess.PIPE, "stderr": subprocess.PIPE, "stdin": subprocess.PIPE if feeds else subprocess.DEVNULL}
-        self.process = subprocess.Popen(list(map(str, words)), env=env, text=True, **how)
+        self.process = subprocess.Popen(list(map(str, words)), env=env, text=True, preexec_fn=with_hangups, **how)
         self.reader = threading.Thread(target=self.read, daemon=True)
         self.reader.start()
 
