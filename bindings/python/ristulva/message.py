@@ -454,9 +454,15 @@ def judged_without_paths(octets: bytes, terms: Terms, place: int) -> typing.Opti
     found = judged(plain, terms.plain(), place)
     if found is None:
         return None
+    data = received_data(octets, terms) if found.verdict == "reset" else found.data
+    return Message(found.octets, terms, place, found.found, data, octets[:length])
+
+
+def received_data(octets: bytes, terms: Terms) -> bytes:
+    """The data of the NOTIFICATION that answers the message that some bytes begin with: an attribute as it was received."""
     verdict, data = Verdict(), ctypes.create_string_buffer(DATA)
     LIBRARY.ristulva_judge_paths(terms.said(), octets, len(octets), data, DATA, verdict)
-    return Message(found.octets, terms, place, found.found, ctypes.string_at(data, verdict.data_len), octets[:length])
+    return ctypes.string_at(data, verdict.data_len)
 
 
 def judge(octets: typing.Any, context: typing.Union[Context, Terms], place: int = 0) -> typing.Optional[Message]:
