@@ -8,7 +8,7 @@ MULTIPROTOCOL, REFRESH, NEXT_HOPS, EXTENDED, FOUR_OCTETS, ADD_PATH, ENHANCED_REF
 IP4_UNICAST, IP6_UNICAST = b"\0\1\1", b"\0\2\1"
 MP_REACH, MP_UNREACH = 14, 15
 LONGEST = 4096
-PATHS = "both OPENs agree on path identifiers (RFC 7911), which aren't read"
+PATHS = "both OPENs agree on path identifiers (RFC 7911)"
 FAMILIES = {
     (1, 1): "IPv4 unicast", (2, 1): "IPv6 unicast", (1, 2): "IPv4 multicast", (2, 2): "IPv6 multicast", (1, 4): "labeled IPv4", (2, 4): "labeled IPv6",
     (1, 128): "VPN-IPv4", (2, 128): "VPN-IPv6", (1, 132): "route target constraints", (1, 133): "IPv4 flow specifications",
@@ -136,6 +136,12 @@ def has_path_identifiers(sender, receiver):
         return False
     families = {IP4_UNICAST} | (sender.families & receiver.families & {IP6_UNICAST})
     return bool(families & path_identifier_families(sender, 2) & path_identifier_families(receiver, 1))
+
+
+def opens_of(sent, received):
+    """The OPENs by which the messages of the first list are read, where both agree on path identifiers in these, which no flag says: else none."""
+    has_paths = has_path_identifiers(said_in(sent), said_in(received))
+    return streams.Opens(sent[0].octets, received[0].octets) if has_paths else None
 
 
 def may_agree(sender, receiver, code, size):

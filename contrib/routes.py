@@ -3,7 +3,7 @@ import csv
 import json
 
 # The columns of a row; in an object a member that isn't known is missing.
-COLUMNS = ("time", "peer", "peer_as", "to", "action", "prefix", "as_path", "next_hop", "communities", "large_communities")
+COLUMNS = ("time", "peer", "peer_as", "to", "action", "prefix", "as_path", "next_hop", "communities", "large_communities", "path")
 ANNOUNCED, WITHDRAWN, END_OF_RIB = "announce", "withdraw", "end_of_rib"
 FROM_MESSAGE = ("time", "peer", "peer_as", "to", "place")
 FROM_ATTRIBUTES = ("as_path", "as4_path", "origin", "med", "local_pref", "communities", "large_communities")
@@ -13,14 +13,21 @@ def routes_of(message):
     """The routes in sequence, as objects: those that are withdrawn first, by RFC 4271, section 3.1. Of an UPDATE that is treated as a withdrawal
     all are withdrawn."""
     who = {name: message[name] for name in FROM_MESSAGE if name in message}
-    gone = message.get("withdrawn", []) + message.get("mp_unreach", {}).get("withdrawn", []) + message.get("routes", [])
-    for prefix in gone:
-        yield {**who, "action": WITHDRAWN, "prefix": prefix}
+    reach, unreach = message.get("mp_reach", {}), message.get("mp_unreach", {})
+    for routes in (with_paths(message, "withdrawn"), with_paths(unreach, "withdrawn"), with_paths(message, "routes", "paths")):
+        for route in routes:
+            yield {**who, "action": WITHDRAWN, **route}
     attributes = {name: message[name] for name in FROM_ATTRIBUTES if name in message}
-    reach = message.get("mp_reach", {})
-    for hop, prefixes in ((reach.get("next_hop"), reach.get("nlri", [])), (message.get("next_hop"), message.get("nlri", []))):
-        for prefix in prefixes:
-            yield {**who, "action": ANNOUNCED, "prefix": prefix, "next_hop": hop, **attributes}
+    for parts in (reach, message):
+        for route in with_paths(parts, "nlri"):
+            yield {**who, "action": ANNOUNCED, **route, "next_hop": parts.get("next_hop"), **attributes}
+
+
+def with_paths(parts, name, beside=None):
+    """The prefixes of a list, each with its path identifier where it has one."""
+    prefixes = parts.get(name, [])
+    paths = parts.get(beside or f"{name}_paths", [None] * len(prefixes))
+    return [{"prefix": prefix} if path is None else {"prefix": prefix, "path": path} for prefix, path in zip(prefixes, paths)]
 
 
 def end_of_rib(message):

@@ -10,6 +10,7 @@ import shutil
 import struct
 import subprocess
 import sys
+import tempfile
 
 OPEN, UPDATE, NOTIFICATION, KEEPALIVE, ROUTE_REFRESH = 1, 2, 3, 4, 5
 HEADER_OCTETS = 19
@@ -46,6 +47,8 @@ Message = collections.namedtuple("Message", "place kind octets time")
 # Octets that weren't captured, from an offset up to another, and those that were passed over from there up to where reading resumed (none: it didn't),
 # when (none: nothing came after them), and the offset of a message that began before them and is incomplete (none: there isn't one).
 Gap = collections.namedtuple("Gap", "place end resumed time cut")
+# The OPEN of who sent a direction, and that of its receiver.
+Opens = collections.namedtuple("Opens", "sender receiver")
 
 
 def messages_in(octets, at=0):
@@ -163,28 +166,43 @@ class Program:
         """What it prints of octets."""
         return subprocess.run([self.path, *words], input=octets, stdout=subprocess.PIPE, stderr=subprocess.DEVNULL, check=False).stdout
 
-    def lines(self, octets, flags):
-        """The lines of `show --json`, without that of the end."""
-        return [line for line in self.run(octets, "show", "--json", *flags).splitlines() if not line.startswith(b'{"kind":"END"')]
+    def run_by(self, opens, octets, *words):
+        """What it prints of octets after the sender's OPEN, by both OPENs."""
+        with tempfile.NamedTemporaryFile() as file:
+            file.write(opens.receiver)
+            file.flush()
+            return self.run(opens.sender + octets, *words, "--opens", file.name)
 
-    def judged(self, messages, flags):
+    def lines(self, octets, flags, opens=None):
+        """The lines of `show --json`, without that of the end: by both OPENs where these are given and accepted, else by flags."""
+        found = self.run_by(opens, octets, "show", "--json").splitlines()[1:] if opens else []
+        found = found or self.run(octets, "show", "--json", *flags).splitlines()
+        return [line for line in found if not line.startswith(b'{"kind":"END"')]
+
+    def judged(self, messages, flags, opens=None):
         """Its object of each message, as text without the offset; none where it has none. A message that ends the stream for the program doesn't end it
         here."""
         found, size = [], 1 << 20
         while len(found) < len(messages):
             part = messages[len(found):len(found) + size]
-            lines = self.lines(b"".join(it.octets for it in part), flags)[:len(part)]
+            lines = self.lines(b"".join(it.octets for it in part), flags, opens)[:len(part)]
             found += [line[line.index(b",") + 1:] for line in lines] or [None]
             size = size * 2 if len(lines) == len(part) else FEW
         return found
 
-    def objects(self, messages, flags):
+    def objects(self, messages, flags, opens=None):
         """The same as objects, with the offsets."""
-        return [line and object_of(it, line) for it, line in zip(messages, self.judged(messages, flags))]
+        return [line and object_of(it, line) for it, line in zip(messages, self.judged(messages, flags, opens))]
 
     def explained(self, octets, flags):
         """The lines of a message, without the end."""
         return self.run(octets, "explain", *flags).decode().splitlines()[:-1]
+
+    def shown(self, octets, opens):
+        """The lines of a message by both OPENs, without its fields and the end: none where an OPEN isn't accepted."""
+        lines, begin = self.run_by(opens, octets, "show").decode().splitlines()[:-1], f"{len(opens.sender)} "
+        first = next((n for n, it in enumerate(lines) if it.startswith(begin)), len(lines))
+        return [f"0 {it.removeprefix(begin)}" if n == first else it for n, it in enumerate(lines) if n >= first]
 
 
 def object_of(message, line):

@@ -285,10 +285,14 @@ def contexts():
     scene("extended messages, used", "an UPDATE of 5051 octets, then attributes beyond the UPDATE, 3/1",
           pcap(it.say("A", huge, BEYOND).say("B", notification(3, 1)).packets),
           [f"for {A}'s UPDATE at octet {after + len(huge)}; it is the last that bgp answers or notes", f"of {A} messages are passed over: 1 above 4096 octets"])
-    it, _ = opened("4504 00010102", "4504 00010101")
-    paths = f"both OPENs agree on path identifiers (RFC 7911), which aren't read: what {A} sends isn't judged here"
-    numbered = update(ORIGIN + PATH + HOP, b"\0\0\0\1" + NEW)
-    scene("path identifiers", "both agree on them; 3/10", pcap(it.say("A", numbered).say("B", notification(3, 10)).packets), [paths], never=r"at octet \d+;")
+    it, after = opened("4504 00010102", "4504 00010101")
+    paths = f"both OPENs agree on path identifiers (RFC 7911) in what {A} sends: its messages are shown without fields"
+    numbered, cut = update(ORIGIN + PATH + HOP, b"\0\0\0\1" + NEW), update(ORIGIN + PATH + HOP, b"\0\0\0\1")
+    scene("path identifiers", "both agree on them; 3/10 for an UPDATE with one", pcap(it.say("A", numbered).say("B", notification(3, 10)).packets),
+          [f"for {A}'s UPDATE at octet {after}; it is the last UPDATE before that", paths, "it is accepted by bgp: theirs 3/10, ours none"])
+    it, after = opened("4504 00010102", "4504 00010101")
+    scene("path identifiers, no prefix", "both agree on them, one has no prefix; 3/10", pcap(it.say("A", numbered, cut).say("B", notification(3, 10)).packets),
+          [f"for {A}'s UPDATE at octet {after + len(numbered)}; it is the last that bgp answers or notes", paths, "bgp's verdict is the same"])
     it, after = opened("4504 00010101", "4504 00010102")
     scene("path identifiers, the other way", "of what OpenBGPD sends both agree on them; attributes of GoBGP's beyond the UPDATE, 3/1",
           pcap(it.say("A", BEYOND).say("B", notification(3, 1)).packets),

@@ -18,9 +18,10 @@ def ip6(octets):
     return ":".join(octets[at : at + 2].hex() for at in range(0, 16, 2))
 
 
-def prefix(it):
-    width, length, address = it
-    return f"{(ip4 if width == 32 else ip6)(spelled(width // 8, address))}/{length}"
+def route(it):
+    """A prefix, and its path identifier where it has one."""
+    width, length, address, *paths = it
+    return f"{(ip4 if width == 32 else ip6)(spelled(width // 8, address))}/{length}" + "".join(f" path {path}" for path in paths)
 
 
 def info(octets):
@@ -41,10 +42,10 @@ def mp_lines(kept):
         family, hop, prefixes = kept[MP_REACH]
         link = f" link {ip6(hop[16:])}" if len(hop) == 32 else ""
         lines.append(f"  mp_reach ip4 next {ip4(hop)}" if family == 1 else f"  mp_reach ip6 next {ip6(hop[:16])}{link}")
-        lines += [f"  mp_nlri {prefix(it)}" for it in prefixes]
+        lines += [f"  mp_nlri {route(it)}" for it in prefixes]
     if MP_UNREACH in kept:
         lines.append(f"  mp_unreach {'ip4' if kept[MP_UNREACH][0] == 1 else 'ip6'}")
-        lines += [f"  mp_withdrawn {prefix(it)}" for it in kept[MP_UNREACH][2]]
+        lines += [f"  mp_withdrawn {route(it)}" for it in kept[MP_UNREACH][2]]
     return lines
 
 
@@ -71,9 +72,9 @@ def attribute_line(kind, it):
 
 def update_lines(withdrawn, kept, nlri, notes):
     order = [*range(ORIGIN, COMMUNITIES + 1), LARGE, AS4_PATH, AS4_AGGREGATOR, *sorted(it for it in kept if it not in FLAGS)]
-    lines = [f"  withdrawn {prefix(it)}" for it in withdrawn] + mp_lines(kept)
+    lines = [f"  withdrawn {route(it)}" for it in withdrawn] + mp_lines(kept)
     lines += [attribute_line(kind, kept[kind]) for kind in order if kind in kept]
-    return lines + [f"  nlri {prefix(it)}" for it in nlri] + note_lines(notes)
+    return lines + [f"  nlri {route(it)}" for it in nlri] + note_lines(notes)
 
 
 def open_lines(field, hold, identifier, capabilities):
@@ -101,7 +102,7 @@ def outcome_lines(at, octets, answer):
     if name == "take":
         return [f"{first} take", *update_lines(*parts)]
     if name == "withdraw":
-        return [f"{first} withdraw", *(f"  route {prefix(it)}" for it in parts[0]), *note_lines(parts[1])]
+        return [f"{first} withdraw", *(f"  route {route(it)}" for it in parts[0]), *note_lines(parts[1])]
     return [first]
 
 
@@ -147,6 +148,20 @@ def report(context, given, is_hex, lines_of):
 def show(context, given, is_hex=False):
     def lines_of(outcomes):
         lines = [line for it in outcomes for line in outcome_lines(*it)]
+        return lines, lines
+
+    return report(context, given, is_hex, lines_of)
+
+
+def is_faulty(answer):
+    """Whether --only-faults shows an outcome: one that isn't accepted without a note, a subtype that is ignored, or a NOTIFICATION."""
+    name, *parts = answer
+    return name in ("withdraw", "reset", "told") or (name == "take" and bool(parts[3])) or (name == "refresh" and parts[2] not in SUBTYPES)
+
+
+def show_faults(context, given, is_hex=False):
+    def lines_of(outcomes):
+        lines = [line for it in outcomes if is_faulty(it[2]) for line in outcome_lines(*it)]
         return lines, lines
 
     return report(context, given, is_hex, lines_of)
@@ -241,10 +256,18 @@ def path_roles(said, afi):
     return roles
 
 
-def have_paths(sender, reader):
-    """Whether routes have path identifiers in what one speaker sends the other."""
-    is_ip6 = all(("multi", 2, 1) in said[3] for said in (sender, reader))
-    return any(path_roles(sender, afi) & {2, 3} and path_roles(reader, afi) & {1, 3} for afi in ([1, 2] if is_ip6 else [1]))
+def agreed_with_paths(sender, reader):
+    """The same, and which routes have path identifiers: those that the sender sends with them and the reader reads so (RFC 7911, section 4), those of IPv6
+    where both offer that."""
+    context = agreed(sender, reader)
+    if context is None:
+        return None
+    has4, has6 = (bool(path_roles(sender, afi) & {2, 3} and path_roles(reader, afi) & {1, 3}) for afi in (1, 2))
+    return dataclasses.replace(context, paths4=has4, paths6=has6 and context.ip6)
+
+
+# The commands that read path identifiers.
+READING_PATHS = (show, show_faults, check)
 
 
 def by_opens(command, theirs, given, is_hex=False, *more):
@@ -254,8 +277,8 @@ def by_opens(command, theirs, given, is_hex=False, *more):
     if bad is not None and not found and not fault:
         return b"", told(f"bad hex at {bad}"), 1
     sender, reader = first_open(octets), first_open(theirs)
-    context = agreed(sender, reader)
-    if context is not None and have_paths(sender, reader):
+    context = agreed_with_paths(sender, reader)
+    if context is not None and (context.paths4 or context.paths6) and command not in READING_PATHS:
         return b"", told("both OPENs agree on path identifiers (RFC 7911), which aren't read"), 1
     if context is None or (command == narrow and not context.as4):
         return b"", told("no OPEN to agree with"), 1

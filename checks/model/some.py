@@ -35,17 +35,23 @@ def some_path(width):
     return path + (octets(chance.randrange(1, 4)) if rarely(25) else b"")
 
 
-def some_prefixes(width):
+def some_identifier():
+    return spelled(4, chance.choice([0, 1, 7, 256, 2**32 - 1, chance.randrange(2**32)]))
+
+
+def some_prefixes(width, has_paths=False):
     lengths = [chance.choice([0, 8, 9, 16, 24, 25, 32, width, chance.randrange(width + 1)]) for _ in range(chance.choice([0, 1, 1, 2, 4]))]
-    run = b"".join(bytes([it]) + octets((it + 7) // 8) for it in lengths)
-    return run + (octets(chance.randrange(1, 3)) if rarely(30) else b"")
+    run = b"".join((some_identifier() if has_paths else b"") + bytes([it]) + octets((it + 7) // 8) for it in lengths)
+    # What is left over: also a whole identifier, and one with a length that is too great.
+    over = some_identifier() + chance.choice([b"", bytes([width + 1]) + octets(17), b"\x10\x0a"]) if has_paths and rarely(2) else octets(chance.randrange(1, 4))
+    return run + (over if rarely(30) else b"")
 
 
-def some_routes(kind):
+def some_routes(context, kind):
     family = chance.choice([1, 2, 2])
     size = chance.choice([16, 32] if family == 2 else [4]) if not rarely(20) else chance.choice([0, 4, 16, 17, 32])
     hop = bytes([size]) + octets(size) + octets(1) if kind == MP_REACH else b""
-    return spelled(2, family) + bytes([1 if not rarely(30) else 128]) + hop + some_prefixes(32 if family == 1 else 128)
+    return spelled(2, family) + bytes([1 if not rarely(30) else 128]) + hop + (some_prefixes(32, context.paths4) if family == 1 else some_prefixes(128, context.paths6))
 
 
 def some_value(context, kind):
@@ -59,7 +65,7 @@ def some_value(context, kind):
     if kind in (AGGREGATOR, AS4_AGGREGATOR):
         return spelled(width, some_as(width)) + octets(4)
     if kind in (MP_REACH, MP_UNREACH):
-        return some_routes(kind)
+        return some_routes(context, kind)
     if kind == LARGE:
         triples = [octets(12) for _ in range(chance.randrange(1, 4))]
         return b"".join(triples + [chance.choice(triples)] * rarely(2))
@@ -86,7 +92,8 @@ def some_update(context):
     field = b"".join(some_attribute(context, it) for it in kinds)
     if rarely(20):
         field += chance.choice([octets(1), octets(3), b"\x80\x0e", b"\xc0\x08\x08\0", b"\x80\x0f\x1a", b"\xd0\x0e\0", b"\x50\x01"])
-    gone, nlri = some_prefixes(32) if rarely(3) else b"", some_prefixes(32) if not rarely(4) else b""
+    gone = some_prefixes(32, context.paths4) if rarely(3) else b""
+    nlri = some_prefixes(32, context.paths4) if not rarely(4) else b""
     before, size = len(gone) if not rarely(50) else chance.randrange(65536), len(field)
     size = chance.choice([size + 1, max(size, 1) - 1, chance.randrange(65536)]) if rarely(50) else size
     return (spelled(2, before) + gone + spelled(2, size) + field + nlri)[:4077]
@@ -133,12 +140,20 @@ def clean_message(context):
     return message(ROUTE_REFRESH, some_refresh()) if context.refresh and rarely(6) else message(UPDATE, clean_body(context.internal))
 
 
-def taken_open():
-    """The body of an OPEN that is accepted, mostly with the capabilities that decide what is agreed on."""
+def some_paths(roles):
+    """A capability for path identifiers of one or both families of unicast, rarely of multicast, or that is ignored (RFC 7911, section 4)."""
+    afis = chance.choice([[1], [2], [1, 2], [2, 1], [1, 1]])
+    rows = b"".join(bytes([0, afi, 1 if not rarely(12) else 2, chance.choice(roles) if not rarely(15) else chance.randrange(6)]) for afi in afis)
+    rows += octets(chance.randrange(1, 4)) if rarely(20) else b""
+    return bytes([69, len(rows)]) + rows
+
+
+def taken_open(*more):
+    """The body of an OPEN that is accepted, mostly with the capabilities that decide what is agreed on, and with more of them."""
     number = chance.choice([65001, 65001, 65002, 200000])
     offered = [b"\1\4\0\1" + octets(1) + b"\1", b"\1\4\0\2\0\1", b"\x41\4" + spelled(4, number), b"\2\0", b"\x46\0", b"\x41\4" + octets(4),
                b"\1\4\0\1\0\x80", b"\2\1\0", b"\x46\1\0", b"\x45\4\0" + bytes([chance.choice([1, 2]), 1, chance.choice([1, 2, 3, 3, 4])])]
-    capabilities = [it for at, it in enumerate(offered) if rarely(5) == (at > 4)]
+    capabilities = [it for at, it in enumerate(offered) if rarely(5) == (at > 4)] + [*more]
     if rarely(2):
         chance.shuffle(capabilities)
     inside = capabilities if rarely(2) else [b"".join(capabilities)]

@@ -1,7 +1,7 @@
 """BGP-4 messages: the outcome of their octets, and how they are written. A model, for comparison: no speed, no streams in pieces.
 
-Written from the rules that docs/made/ATTRIBUTES.md, docs/made/DEFINITIONS.md and docs/DECISIONS.md state, a ROUTE-REFRESH from RFC 2918 and RFC 7313, and
-not from the crates.
+Written from the rules that docs/made/ATTRIBUTES.md, docs/made/DEFINITIONS.md and docs/DECISIONS.md state, a ROUTE-REFRESH from RFC 2918 and RFC 7313, path
+identifiers from RFC 7911, and not from the crates.
 """
 from dataclasses import dataclass
 
@@ -40,6 +40,9 @@ class Context:
     # Whether the receiver offers ROUTE-REFRESH (RFC 2918), and whether both offer where a refresh begins and ends (RFC 7313): never that alone.
     refresh: bool = False
     enhanced: bool = False
+    # Whether unicast routes of IPv4 and of IPv6 have path identifiers (RFC 7911).
+    paths4: bool = False
+    paths6: bool = False
 
     def uses(self, family):
         """Whether routes of this AFI and SAFI are in use."""
@@ -68,17 +71,21 @@ def message(kind, body):
     return MARKER + spelled(2, 19 + len(body)) + bytes([kind]) + body
 
 
-def read_prefixes(width, octets):
-    """The prefixes up to the end or the first fault, as (bits of an address, length, address), and whether there is a fault."""
+def read_prefixes(width, octets, has_paths=False):
+    """The prefixes up to the end or the first fault, as (bits of an address, length, address), and whether there is a fault. Each has a path identifier
+    before it where they have some (RFC 7911, section 3), which is then the last of the four."""
     found, at = [], 0
     while at < len(octets):
+        begin, at = at, at + 4 * has_paths
+        if at >= len(octets):
+            return found, True
         length = octets[at]
         size = (length + 7) // 8
         if length > width or at + 1 + size > len(octets):
             return found, True
         address = number(octets[at + 1 : at + 1 + size].ljust(width // 8, b"\0"))
         address &= ((1 << length) - 1) << (width - length)
-        found.append((width, length, address))
+        found.append((width, length, address, *([number(octets[begin:at])] if has_paths else [])))
         at += 1 + size
     return found, False
 
@@ -166,13 +173,14 @@ def judge_routes(context, kind, value, whole):
     family = (number(value[:2]), value[2])
     if not context.uses(family):
         return ("discard", "Family")
-    width, rest, next_hop = {1: 32, 2: 128}[family[0]], value[3:], b""
+    width, has_paths = {1: (32, context.paths4), 2: (128, context.paths6)}[family[0]]
+    rest, next_hop = value[3:], b""
     if kind == MP_REACH:
         size = value[3]
         if size not in {1: (4,), 2: (16, 32)}[family[0]] or 5 + size > len(value):
             return fault
         next_hop, rest = value[4 : 4 + size], value[5 + size :]
-    prefixes, is_bad = read_prefixes(width, rest)
+    prefixes, is_bad = read_prefixes(width, rest, has_paths)
     return fault if is_bad else ("keep", (family[0], next_hop, prefixes))
 
 
@@ -283,8 +291,8 @@ def verdict(context, body):
         return reset(3, 1)
     gone, field, nlri = body[2 : 2 + before], body[start:end], body[end:]
     marks, kept, seen = marks_of(context, field, bool(nlri))
-    withdrawn, first_is_bad = read_prefixes(32, gone)
-    announced, last_is_bad = read_prefixes(32, nlri)
+    withdrawn, first_is_bad = read_prefixes(32, gone, context.paths4)
+    announced, last_is_bad = read_prefixes(32, nlri, context.paths4)
     marks += [reset(3, 10)] * (first_is_bad + last_is_bad)
     resets = [it for it in marks if it[0] == "reset"]
     if resets:

@@ -11,5 +11,6 @@ pub mod Wides
 pub mod Digits
 pub mod Narrows
 pub mod FirstOpens
+pub mod Identifieds
 pub mod Startings
 pub mod Speakers

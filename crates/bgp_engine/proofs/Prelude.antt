@@ -18,7 +18,7 @@ pub use Rattle.bgp_frame.proofs.Pulls.{nothing_waits}
 pub use Rattle.bgp_frame.proofs.Streams.{gives_fault, gives_more, gives_reset, gives_wait}
 pub use Rattle.bgp_open.specs.Prelude.{IsAllowed, Settings, agreed_context, agreement, context_of, own_of, same_id}
 pub use Rattle.bgp_update.specs.Prelude.{CanBeTold}
-pub use Rattle.bgp_engine.specs.Prelude.{Answers, AppendsFront, Breaks, Closes, ClosesBy, Continues, Fails, FailsWithin, Finished, Finishes, FirstPair, GoesOn, Hears, Io, IsAllRead, IsAnswer, IsBadAt, IsCounting, IsFaultOf, IsFresh, IsFront, IsJudged, IsOver, IsPair, IsFirst, IsReady, IsReport, IsTyped, IsTotal, IsWaiting, MeetsBad, MeetsBlock, MeetsOver, Moves, OfOctets, Plan, ReadsPairs, ReadyAt, Report, ReportedAs, ReportedAt, ReportedBy, ReportedFrom, ReportedIn, ReportedWith, ReportedWithout, Reports, Rests, Rules, RulesIn, Settles, Start, Starts, Takes, Walking, Writes, WritesAll, WritesFault, WritesNone, agreed, all_counts, bad_of, behind, class_of, closing, comes, counted, digit_value, end_by, ended_by, first_message, first_open, fit_of, hex_line, io, is_blank, is_last, is_part, messages_in, no_tally, octets_at, open_at, open_in, outcome, passed, pending, place, report_of, reported, reports_in, reports_of, reset_if, rest_of, start_in, start_of, start_under, starting, starts_of, stream_of, total, unagreed, unagreed_end, value_or_none, walk_of, walker, walking, without_words}
+pub use Rattle.bgp_engine.specs.Prelude.{Answers, AppendsFront, Breaks, Closes, ClosesBy, Continues, Fails, FailsWithin, Finished, Finishes, FirstPair, GoesOn, Hears, Io, IsAllRead, IsAnswer, IsBadAt, IsCounting, IsFaultOf, IsFresh, IsFront, IsJudged, IsOver, IsPair, IsFirst, IsReady, IsReport, IsTyped, IsTotal, IsWaiting, MeetsBad, MeetsBlock, MeetsOver, Moves, OfOctets, Plan, ReadsPairs, ReadyAt, Report, ReportedAs, ReportedAt, ReportedBy, ReportedFrom, ReportedIn, ReportedWith, ReportedWithout, Reports, Rests, Rules, RulesIn, Settles, Start, Starts, Takes, Walking, Writes, WritesAll, WritesFault, WritesNone, Fit, agreed, any_as4, any_plain, any_terms, fitting, all_counts, bad_of, behind, class_of, closing, comes, counted, digit_value, end_by, ended_by, first_message, first_open, fit_of, hex_line, io, is_blank, is_last, is_part, messages_in, no_tally, octets_at, open_at, open_in, outcome, passed, pending, place, report_of, reported, reports_in, reports_of, reset_if, rest_of, start_in, start_of, start_under, starting, starts_of, stream_of, total, unagreed, unagreed_end, value_or_none, walk_of, walker, walking, without_words}
 unfoldable pub use Rattle.bgp_engine.specs.Prelude.{bad_from, spelled}
 pub use Rattle.bgp_engine.specs.declared.class.Class.{Class}
 pub use Rattle.bgp_engine.specs.declared.fault.ToolFault.{ToolFault}

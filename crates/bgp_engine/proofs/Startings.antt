@@ -5,7 +5,7 @@ use Rattle.bgp_engine.proofs.Prelude.{is_some, OnErr, append-nil, length-append,
 use Rattle.bgp_engine.proofs.Prelude.{AreOctets-back, AreOctets-front, AreOctets-drop, End, HeadFault, Message, octets_of, IsFrame, Waits, head_of}
 use Rattle.bgp_engine.proofs.Prelude.{head_of-append, length-IsFrame, Stops-wanted, gives_wait, Class, ToolFault, Tally, without_words, nothing_waits}
 use Rattle.bgp_engine.proofs.Prelude.{first_message, first_open, is_part, open_at, open_in, Start, Starts, ReportedAt, ReportedAs, ReportedFrom, ReportedWith}
-use Rattle.bgp_engine.proofs.Prelude.{ReportedWithout, ReportedBy, ReportedIn, fit_of, unagreed, unagreed_end, Report, behind, IsOver, IsWaiting, Rules, RulesIn}
+use Rattle.bgp_engine.proofs.Prelude.{ReportedWithout, ReportedBy, ReportedIn, Fit, any_plain, fit_of, fitting, unagreed, unagreed_end, Report, behind, IsOver, IsWaiting, Rules, RulesIn}
 use Rattle.bgp_engine.proofs.Prelude.{counted, report_of, IsReport, Answers, Io, Reports, no_tally, Closes, ClosesBy, GoesOn, IsTotal, Rests, Takes, Plan}
 use Rattle.bgp_engine.proofs.Prelude.{start_of, start_under, starts_of, IsFirst, IsFresh, Settles, reports_in, starting, Walking, IsReady, reports_of, walking, agreed}
 use Rattle.bgp_engine.proofs.Prelude.{Stage}
@@ -349,7 +349,7 @@ wordless reports hex io (Err (ToolFault.NoContext why)) a = refl
 
 -- ---- how a page's stream is read
 
-module _ {P Outcome : Type 0} (fits : Agreed → Bool) (rules : P → Rules Outcome) (plan : P → Option Agreed → Plan Kind Outcome) where
+module _ {P Outcome : Type 0} (fits : Fit) (rules : P → Rules Outcome) (plan : P → Option Agreed → Plan Kind Outcome) where
   abbrev from : Refreshes → Option (List ℕ) → P → Starts WideKind (Outcome ⊎ Refreshed)
   from accepted theirs page = starts_of fits rules plan accepted theirs page
 
@@ -370,7 +370,7 @@ module _ {P Outcome : Type 0} (fits : Agreed → Bool) (rules : P → Rules Outc
   starts_at accepted None p q e f (Some m) = ap (λ (x : Option Agreed → Plan Kind Outcome). Ok (start_of m accepted (x None))) f
   starts_at accepted (Some theirs) p q e f None = refl
   starts_at accepted (Some theirs) p q e f (Some m) =
-      ap (λ (x : Option Agreed → Plan Kind Outcome). start_by (λ terms. start_of m terms.refresh (x (Some terms))) (fit_of fits (agreed (open_in m.kind m.body) (first_open theirs)))) f
+      ap (λ (x : Option Agreed → Plan Kind Outcome). start_by (λ terms. start_of m terms.refresh (x (Some terms))) (fitting fits (open_in m.kind m.body) (first_open theirs))) f
 
   pub starts_same : (accepted : Refreshes) (theirs : Option (List ℕ)) (p q : P) → rules p ≡ rules q → plan p ≡ plan q → from accepted theirs p ≡ from accepted theirs q
   starts_same accepted theirs p q e f = λ i o. starts_at accepted theirs p q e f o i
@@ -387,7 +387,7 @@ module _ {P Outcome : Type 0} (fits : Agreed → Bool) (rules : P → Rules Outc
     extending accepted None None x e = subst (λ (y : WideStart Outcome). Extends y.rules.types) (same_start _ x e) (wide_extends accepted)
     extending accepted None (Some m) x e = subst (λ (y : WideStart Outcome). Extends y.rules.types) (same_start _ x e) (wide_extends accepted)
     extending accepted (Some theirs) None x e = absurd cc
-    extending accepted (Some theirs) (Some m) x e = by_terms m (fit_of fits (agreed (open_in m.kind m.body) (first_open theirs))) x e
+    extending accepted (Some theirs) (Some m) x e = by_terms m (fitting fits (open_in m.kind m.body) (first_open theirs)) x e
 
   -- no first message has a separate rule: the stream is reported by what both agree on
   pub opened : (accepted : Refreshes) (theirs : List ℕ) (page : P) → ((terms : Agreed) (m : Message) → (plan page (Some terms)).first m ≡ None) → (s : List ℕ) (r : Report)
@@ -399,9 +399,9 @@ module _ {P Outcome : Type 0} (fits : Agreed → Bool) (rules : P → Rules Outc
       by_fit m (Err why) given = given
       by_fit m (Ok terms) given = subst (λ (text : Option (List ℕ)). ReportedAs (wide_rules terms.refresh (plan page (Some terms)).rules) text (length (octets_of m)) s r) (plainly terms m) given
 
-      by_first : (o : Option Message) → ReportedAt (from accepted (Some theirs) page) o s r → ReportedIn (fit_of fits (agreed (open_at o) (first_open theirs))) (λ terms. IsReport (wide_rules terms.refresh (plan page (Some terms)).rules) 0 no_tally) s r
+      by_first : (o : Option Message) → ReportedAt (from accepted (Some theirs) page) o s r → ReportedIn (fitting fits (open_at o) (first_open theirs)) (λ terms. IsReport (wide_rules terms.refresh (plan page (Some terms)).rules) 0 no_tally) s r
       by_first None given = given
-      by_first (Some m) given = by_fit m (fit_of fits (agreed (open_in m.kind m.body) (first_open theirs))) given
+      by_first (Some m) given = by_fit m (fitting fits (open_in m.kind m.body) (first_open theirs)) given
 
 -- two ways to read a stream that agree on each first message
 pub from_same : {K Outcome : Type 0} (a b : Starts K Outcome) → ((o : Option Message) → a o ≡ b o) → (s : List ℕ) (r : Report) → ReportedFrom a s r → ReportedFrom b s r
@@ -434,24 +434,24 @@ from_plain {Outcome = Outcome} a b same types s r q = by_first (first_message s)
 abbrev clean_page_plan : CleanPage → Option Agreed → Plan Kind (Result (List Said) CleanFault)
 clean_page_plan page terms = clean_plan (offers_or page.offers terms) (context_or page.ctx terms) (has_octet page.drops) page.limits
 
-pub clean_same : (page : CleanPage) → page.offers ≡ refreshes.None → (s : List ℕ) (r : Report) → ReportedFrom (starts_of (λ _. true) page_rules clean_page_plan refreshes.None None page) s r → ReportedFrom (starts_in page.ctx (has_octet page.drops) page.limits) s r
+pub clean_same : (page : CleanPage) → page.offers ≡ refreshes.None → (s : List ℕ) (r : Report) → ReportedFrom (starts_of any_plain page_rules clean_page_plan refreshes.None None page) s r → ReportedFrom (starts_in page.ctx (has_octet page.drops) page.limits) s r
 clean_same page bare s r q = from_plain _ (λ first. start_in (has_octet page.drops) page.limits first page.ctx) same (λ o. refl) s r q
   where
-    same : (o : Option Message) → starts_of (λ _. true) page_rules clean_page_plan refreshes.None None page o ≡ Ok (unoffered (start_in (has_octet page.drops) page.limits o page.ctx))
+    same : (o : Option Message) → starts_of any_plain page_rules clean_page_plan refreshes.None None page o ≡ Ok (unoffered (start_in (has_octet page.drops) page.limits o page.ctx))
     same None = refl
     same (Some m) =
         ap (λ (offers : Refreshes). Ok (unoffered (record { rules = clean_rules page.ctx (has_octet page.drops) page.limits; first = first_line offers page.ctx (has_octet page.drops) page.limits m m.kind }))) bare
 
 -- by terms
 pub clean_under : (terms : Agreed) (page : CleanPage) → page.offers ≡ terms.refresh → page.ctx ≡ terms.context → (o : Option Message)
-    → starts_of (λ _. true) page_rules clean_page_plan terms.refresh None page o ≡ starts_under terms (has_octet page.drops) page.limits o
+    → starts_of any_plain page_rules clean_page_plan terms.refresh None page o ≡ starts_under terms (has_octet page.drops) page.limits o
 clean_under terms page offers context None = rw (sym context) refl
 clean_under terms page offers context (Some m) = rw (sym context, sym offers) refl
 
 pub clean_by : (accepted : Refreshes) (theirs : List ℕ) (page : CleanPage) (o : Option Message)
-    → starts_of (λ _. true) page_rules clean_page_plan accepted (Some theirs) page o ≡ starts_by theirs (has_octet page.drops) page.limits o
+    → starts_of any_plain page_rules clean_page_plan accepted (Some theirs) page o ≡ starts_by theirs (has_octet page.drops) page.limits o
 clean_by accepted theirs page None = refl
-clean_by accepted theirs page (Some m) = by_agreed (agreed (open_in m.kind m.body) (first_open theirs))
+clean_by accepted theirs page (Some m) = by_agreed (agreed false (open_in m.kind m.body) (first_open theirs))
   where
     by_agreed : (o : Result Agreed NoContext) → start_by (λ terms. start_of m terms.refresh (clean_page_plan page (Some terms))) (fit_of (λ _. true) o) ≡ start_by (start_under (has_octet page.drops) page.limits (Some m)) o
     by_agreed (Err why) = refl

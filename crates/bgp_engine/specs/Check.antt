@@ -3,6 +3,9 @@ use Rattle.std.specs.Prelude.{ℕ, List, [], ◌∷◌, ◌++◌, codes, Ok}
 use Rattle.bgp_engine.specs.Below.{Agreed, Context, Outcome, stream_rules, end_line, plain}
 use Rattle.std.specs.Fmt.{decimal}
 use Rattle.bgp_engine.specs.declared.tally.Tally.{Tally}
+use Rattle.bgp_paths.specs.declared.families.PathFamilies.{PathFamilies}
+use Rattle.bgp_paths.specs.Prelude.{path_families}
+use Rattle.bgp_engine.specs.Identified.{judged_by}
 use Rattle.bgp_engine.specs.Rules.{Rules, IsReport}
 use Rattle.bgp_engine.specs.Run.{Reports}
 use Rattle.bgp_engine.specs.Show.{class_of}
@@ -28,9 +31,13 @@ check_rules ctx = record {
   answer = λ tally _. Ok tally;
 }
 
+-- the same where routes may have path identifiers
+abbrev pub check_path_rules : PathFamilies → Context → Rules Outcome
+check_path_rules f ctx = record (check_rules ctx) { judge = judged_by f ctx }
+
 abbrev pub Checked : Context → Reports
 Checked ctx = IsReport (check_rules ctx) 0 no_tally
 
--- the same where ROUTE-REFRESH may be agreed on
+-- the same where ROUTE-REFRESH and path identifiers may be agreed on
 abbrev pub CheckedUnder : Agreed → Reports
-CheckedUnder terms = IsReport (wide_rules terms.refresh (check_rules terms.context)) 0 no_tally
+CheckedUnder terms = IsReport (wide_rules terms.refresh (check_path_rules (path_families terms) terms.context)) 0 no_tally

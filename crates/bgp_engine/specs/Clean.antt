@@ -87,7 +87,7 @@ starts_under terms drops limits first = Ok (start_under drops limits first terms
 
 -- by what the first message and that of the other direction agree on
 abbrev pub starts_by : List ℕ → (ℕ → Bool) → Limits → Starts WideKind (Result (List Message) CleanFault ⊎ Refreshed)
-starts_by theirs drops limits first = start_by (start_under drops limits first) (agreed (open_at first) (first_open theirs))
+starts_by theirs drops limits first = start_by (start_under drops limits first) (agreed false (open_at first) (first_open theirs))
 
 abbrev pub CleanedIn : Context → (ℕ → Bool) → Limits → Reports
 CleanedIn ctx drops limits = ReportedFrom (starts_in ctx drops limits)

@@ -9,6 +9,7 @@ pub mod Refreshed
 pub mod Rules
 pub mod Wide
 pub mod Show
+pub mod Identified
 pub mod ShowJson
 pub mod OnlyFaults
 pub mod Explain

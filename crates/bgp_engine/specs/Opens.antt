@@ -1,10 +1,9 @@
 -- The reports of an engine on a stream by what its first OPEN and that of the other direction agree on.
-use Rattle.std.specs.Prelude.{◌≡◌, ℕ, Bool, true, List, [], length, Result, Ok, Err, if◌then◌else◌}
+use Rattle.std.specs.Prelude.{◌≡◌, ℕ, List, [], length, Result, Ok, Err, if◌then◌else◌}
 use Rattle.bgp_engine.specs.Below.{Agreed, End}
 use Rattle.bgp_engine.specs.declared.fault.NoContext.{NoContext as Why}
-use Rattle.bgp_engine.specs.declared.fault.NoContext.TheVariants.{NoOpen}
 use Rattle.bgp_engine.specs.declared.fault.ToolFault.TheVariants.{NoContext}
-use Rattle.bgp_engine.specs.Agree.{agreed}
+use Rattle.bgp_engine.specs.Agree.{Fit, any_as4, any_terms, fitting}
 use Rattle.bgp_engine.specs.Check.{CheckedUnder}
 use Rattle.bgp_engine.specs.File.{first_open, is_part}
 use Rattle.bgp_engine.specs.Narrow.{NarrowedUnder}
@@ -25,28 +24,19 @@ abbrev pub ReportedIn : Result Agreed Why → (Agreed → Reports) → List ℕ 
 ReportedIn (Ok terms) reports stream r = reports terms stream r
 ReportedIn (Err why) reports stream r = r ≡ unagreed why (unagreed_end stream)
 
--- what a stream and the octets of the other direction agree on
-abbrev pub terms_by : List ℕ → List ℕ → Result Agreed Why
-terms_by theirs stream = agreed (first_open stream) (first_open theirs)
-
--- terms, where they are suitable
-abbrev pub fit_of : (Agreed → Bool) → Result Agreed Why → Result Agreed Why
-fit_of fits (Err why) = Err why
-fit_of fits (Ok terms) = if fits terms then Ok terms else Err NoOpen
-
 -- the report of a stream by what it and the octets of the other direction agree on, where that is suitable
-abbrev pub ReportedBy : (Agreed → Bool) → List ℕ → (Agreed → Reports) → Reports
-ReportedBy fits theirs reports stream r = ReportedIn (fit_of fits (terms_by theirs stream)) reports stream r
+abbrev pub ReportedBy : Fit → List ℕ → (Agreed → Reports) → Reports
+ReportedBy fits theirs reports stream r = ReportedIn (fitting fits (first_open stream) (first_open theirs)) reports stream r
 
 abbrev pub ShownBy : List ℕ → Reports
-ShownBy theirs = ReportedBy (λ terms. true) theirs ShownUnder
+ShownBy theirs = ReportedBy any_terms theirs ShownUnder
 
 abbrev pub ShownJsonBy : List ℕ → Reports
-ShownJsonBy theirs = ReportedBy (λ terms. true) theirs ShownJsonUnder
+ShownJsonBy theirs = ReportedBy any_terms theirs ShownJsonUnder
 
 abbrev pub CheckedBy : List ℕ → Reports
-CheckedBy theirs = ReportedBy (λ terms. true) theirs CheckedUnder
+CheckedBy theirs = ReportedBy any_terms theirs CheckedUnder
 
 -- what is narrowed has 4-octet AS numbers
 abbrev pub NarrowedBy : List ℕ → Reports
-NarrowedBy theirs = ReportedBy (λ terms. terms.context.as4) theirs NarrowedUnder
+NarrowedBy theirs = ReportedBy any_as4 theirs NarrowedUnder

@@ -14,8 +14,8 @@ pub use Rattle.bgp_engine.specs.Narrow.{NarrowedUnder}
 pub use Rattle.bgp_engine.specs.Refreshed.{grammar_of, is_ignored, is_offered, refresh_span, refreshed}
 pub use Rattle.bgp_engine.specs.Wide.{wide_rules}
 pub use Rattle.bgp_engine.specs.File.{first_message, first_open, is_part, open_at, open_in}
-pub use Rattle.bgp_engine.specs.Agree.{agreed}
-pub use Rattle.bgp_engine.specs.Opens.{CheckedBy, NarrowedBy, ReportedBy, ReportedIn, ShownBy, ShownJsonBy, fit_of, unagreed, unagreed_end}
+pub use Rattle.bgp_engine.specs.Agree.{Fit, agreed, any_as4, any_plain, any_terms, fit_of, fitting}
+pub use Rattle.bgp_engine.specs.Opens.{CheckedBy, NarrowedBy, ReportedBy, ReportedIn, ShownBy, ShownJsonBy, unagreed, unagreed_end}
 pub use Rattle.bgp_engine.specs.Print.{Printed, PrintedBy, PrintedUnder}
 pub use Rattle.bgp_engine.specs.First.{ReportedAs, ReportedAt, ReportedFrom, ReportedWith, ReportedWithout, Start, Starts, start_by}
 pub use Rattle.bgp_engine.specs.steps.Blocks.{Finished, Meets, MeetsBad, MeetsBlock, MeetsOver, Spells, SpellsNoMore, WritesAll, WritesNone}

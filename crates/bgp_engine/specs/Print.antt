@@ -1,14 +1,19 @@
 -- What is printed of a stream, in each style.
 use Rattle.bgp_engine.specs.Below.{Agreed, Bool, true, false, List, Context, ℕ, end_line, end_json, outcome_json, refresh_json, refresh_line}
 use Rattle.bgp_engine.specs.declared.printing.Style.{Style}
+use Rattle.bgp_engine.specs.Agree.{Fit, any_plain, any_terms}
 use Rattle.bgp_engine.specs.Explain.{Explained, ExplainedUnder, in_json, in_lines}
 use Rattle.bgp_engine.specs.Heard.{Heard}
+use Rattle.bgp_engine.specs.Identified.{where_faulty}
+use Rattle.bgp_paths.specs.Prelude.{path_families}
+use Rattle.bgp_text.specs.JsonPaths.{path_outcome_json}
+use Rattle.bgp_text.specs.PathLines.{path_lines}
 use Rattle.bgp_engine.specs.OnlyFaults.{chosen, where_fault}
 use Rattle.bgp_engine.specs.Opens.{ReportedBy}
 use Rattle.bgp_engine.specs.Refreshed.{where_ignored}
 use Rattle.bgp_engine.specs.Rules.{IsReport, Rules}
 use Rattle.bgp_engine.specs.Run.{Reports}
-use Rattle.bgp_engine.specs.Show.{Shown, ShownUnder, printed_rules, shown_lines}
+use Rattle.bgp_engine.specs.Show.{Shown, ShownUnder, path_rules, printed_rules, shown_lines}
 use Rattle.bgp_engine.specs.ShowJson.{ShownJson, ShownJsonUnder}
 use Rattle.bgp_engine.specs.Tally.{no_tally}
 use Rattle.bgp_engine.specs.Wide.{wide_rules}
@@ -20,6 +25,13 @@ faulty_lines = printed_rules (where_fault shown_lines) (where_ignored refresh_li
 abbrev pub faulty_json : Context → Rules Heard
 faulty_json = printed_rules (where_fault outcome_json) (where_ignored refresh_json) end_json
 
+-- the same where routes may have path identifiers
+abbrev pub faulty_path_lines : Agreed → Rules Heard
+faulty_path_lines terms = path_rules (where_fault shown_lines) (where_faulty path_lines) (where_ignored refresh_line) end_line (path_families terms) terms.context
+
+abbrev pub faulty_path_json : Agreed → Rules Heard
+faulty_path_json terms = path_rules (where_fault outcome_json) (where_faulty path_outcome_json) (where_ignored refresh_json) end_json (path_families terms) terms.context
+
 -- what is printed of a stream in a style: of all messages, or only of those that aren't accepted without a note and of NOTIFICATIONs
 abbrev pub Printed : Style → Bool → Context → Reports
 Printed Style.Lines false = Shown
@@ -29,15 +41,22 @@ Printed Style.Json true = λ ctx. IsReport (faulty_json ctx) 0 no_tally
 Printed Style.Explained only_faults = Explained in_lines (chosen only_faults)
 Printed Style.ExplainedJson only_faults = Explained in_json (chosen only_faults)
 
--- the same where ROUTE-REFRESH may be agreed on
+-- the same where ROUTE-REFRESH may be agreed on, and path identifiers where no fields are printed
 abbrev pub PrintedUnder : Style → Bool → Agreed → Reports
 PrintedUnder Style.Lines false = ShownUnder
-PrintedUnder Style.Lines true = λ terms. IsReport (wide_rules terms.refresh (faulty_lines terms.context)) 0 no_tally
+PrintedUnder Style.Lines true = λ terms. IsReport (wide_rules terms.refresh (faulty_path_lines terms)) 0 no_tally
 PrintedUnder Style.Json false = ShownJsonUnder
-PrintedUnder Style.Json true = λ terms. IsReport (wide_rules terms.refresh (faulty_json terms.context)) 0 no_tally
+PrintedUnder Style.Json true = λ terms. IsReport (wide_rules terms.refresh (faulty_path_json terms)) 0 no_tally
 PrintedUnder Style.Explained only_faults = ExplainedUnder in_lines (chosen only_faults)
 PrintedUnder Style.ExplainedJson only_faults = ExplainedUnder in_json (chosen only_faults)
 
+-- fields are printed of messages without path identifiers alone
+abbrev pub fit_in : Style → Fit
+fit_in Style.Lines = any_terms
+fit_in Style.Json = any_terms
+fit_in Style.Explained = any_plain
+fit_in Style.ExplainedJson = any_plain
+
 -- by what both OPENs agree on
 abbrev pub PrintedBy : Style → Bool → List ℕ → Reports
-PrintedBy style only_faults theirs = ReportedBy (λ terms. true) theirs (PrintedUnder style only_faults)
+PrintedBy style only_faults theirs = ReportedBy (fit_in style) theirs (PrintedUnder style only_faults)

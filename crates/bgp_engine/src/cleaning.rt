@@ -96,6 +96,7 @@ fn reason(fault: HeadFault) -> CleanFault {
 }
 
 impl Page for CleanPage {
+    ghost use Rattle.bgp_engine.specs.Agree.{any_plain};
     ghost use Rattle.std.specs.Prelude.{refl};
     ghost use Rattle.bgp_engine.specs.Below.{true, List, Result, has_octet, CleanFault};
     ghost use Rattle.bgp_msg.specs.declared.message.Message.{Message};
@@ -108,11 +109,15 @@ impl Page for CleanPage {
 
     ghost told = { λ page. page.octets.items };
 
-    ghost fits = { λ _. true };
+    ghost fits = { any_plain };
 
     ghost plan = { λ page terms. clean_plan (offers_or page.offers terms) (context_or page.ctx terms) (has_octet page.drops) page.limits };
 
     ghost plainly = { λ _. refl };
+
+    fn reads_paths(&self) -> bool {
+        false
+    }
 
     fn agree(&mut self, terms: &WideTerms) -> bool {
         self.offers = terms.refresh;

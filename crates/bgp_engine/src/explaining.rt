@@ -133,6 +133,7 @@ impl<F: FieldForm, C: Choice> ExplainPage<F, C> {
 }
 
 impl<F: FieldForm, C: Choice> Page for ExplainPage<F, C> {
+    ghost use Rattle.bgp_engine.specs.Agree.{any_plain};
     ghost use Rattle.std.specs.Prelude.{refl};
     ghost use Rattle.bgp_engine.specs.Below.{true, string_bytes};
     ghost use Rattle.bgp_engine.specs.Explain.{explained_rules};
@@ -145,11 +146,15 @@ impl<F: FieldForm, C: Choice> Page for ExplainPage<F, C> {
 
     ghost told = { λ page. string_bytes page.text };
 
-    ghost fits = { λ _. true };
+    ghost fits = { any_plain };
 
     ghost plan = { λ page terms. plain (explained_rules F.form C.printed (context_or page.ctx terms)) };
 
     ghost plainly = { λ _. refl };
+
+    fn reads_paths(&self) -> bool {
+        false
+    }
 
     fn agree(&mut self, terms: &WideTerms) -> bool {
         self.ctx = terms.context;

@@ -79,6 +79,7 @@ struct HexPage {
 }
 
 impl Page for HexPage {
+    ghost use Rattle.bgp_engine.specs.Agree.{any_plain};
     ghost use Rattle.std.specs.Prelude.{refl};
     ghost use Rattle.std.specs.Prelude.{true};
     ghost use Rattle.bgp_engine.specs.ToHex.{Framed, hex_rules};
@@ -90,11 +91,15 @@ impl Page for HexPage {
 
     ghost told = { λ page. page.text.items };
 
-    ghost fits = { λ _. true };
+    ghost fits = { any_plain };
 
     ghost plan = { λ _ _. plain hex_rules };
 
     ghost plainly = { λ _. refl };
+
+    fn reads_paths(&self) -> bool {
+        false
+    }
 
     fn agree(&mut self, _terms: &WideTerms) -> bool {
         true

@@ -14,6 +14,7 @@ mod form;
 mod heard;
 mod hex_text;
 mod hexed;
+mod identified;
 pub mod laws;
 mod narrowing;
 mod only_faults;

@@ -86,6 +86,7 @@ pub(crate) struct NarrowPage {
 }
 
 impl Page for NarrowPage {
+    ghost use Rattle.bgp_engine.specs.Agree.{any_as4};
     ghost use Rattle.std.specs.Prelude.{refl};
     ghost use Rattle.bgp_engine.specs.Below.{ℕ, List, Option};
     ghost use Rattle.bgp_engine.specs.Narrow.{narrow_rules};
@@ -97,11 +98,15 @@ impl Page for NarrowPage {
 
     ghost told = { λ page. page.octets.items };
 
-    ghost fits = { λ terms. terms.context.as4 };
+    ghost fits = { any_as4 };
 
     ghost plan = { λ page terms. plain (narrow_rules (context_or page.ctx terms)) };
 
     ghost plainly = { λ _. refl };
+
+    fn reads_paths(&self) -> bool {
+        false
+    }
 
     fn agree(&mut self, terms: &WideTerms) -> bool {
         if !terms.context.as4 {

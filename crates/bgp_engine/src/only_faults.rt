@@ -9,6 +9,7 @@ use crate::form::Form;
 use bgp_fields::Span;
 use bgp_frame::End;
 use bgp_msg::OutcomeView;
+use bgp_paths::{PathRuns, PathShifts};
 use bgp_refresh::{RefreshMark, RefreshView};
 use std::alloc::{AllocError, Global};
 
@@ -96,10 +97,13 @@ pub(crate) struct OnlyFaults<F> {
 }
 
 impl<F: Form> Form for OnlyFaults<F> {
+    ghost use Rattle.bgp_engine.specs.Identified.{where_faulty};
     ghost use Rattle.bgp_engine.specs.OnlyFaults.{where_fault};
     ghost use Rattle.bgp_engine.specs.Refreshed.{where_ignored};
 
     ghost shown = { where_fault F.shown };
+
+    ghost shown_paths = { where_faulty F.shown_paths };
 
     ghost shown_refresh = { where_ignored F.shown_refresh };
 
@@ -118,6 +122,23 @@ impl<F: Form> Form for OnlyFaults<F> {
             return Ok(());
         }
         self.form.put(alloc, text, place, len, span, outcome)
+    }
+
+    fn put_paths(
+        &self,
+        alloc: Global,
+        text: &mut String,
+        place: u64,
+        len: u16,
+        runs: &PathRuns<'_>,
+        shifts: &PathShifts,
+        outcome: &OutcomeView<'_>,
+    ) -> Result<(), AllocError> {
+        if !is_fault(outcome) {
+            return Ok(());
+        }
+        self.form
+            .put_paths(alloc, text, place, len, runs, shifts, outcome)
     }
 
     fn put_refresh(

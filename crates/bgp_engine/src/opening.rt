@@ -28,10 +28,10 @@ pub(crate) enum Stage {
 }
 
 // What was negotiated for the messages from the speaker of one OPEN to the other.
-fn agreed(ours: &Open, theirs: &Open) -> Result<WideTerms, NoContext>
-    ensures { result_map_both wide_terms (λ why. why) result ≡ agreed (Some ours.now) (Some theirs.now) }
+fn agreed(reads_paths: bool, ours: &Open, theirs: &Open) -> Result<WideTerms, NoContext>
+    ensures { result_map_both wide_terms (λ why. why) result ≡ agreed reads_paths (Some ours.now) (Some theirs.now) }
 {
-    if agree_on_paths(ours, theirs) {
+    if !reads_paths && agree_on_paths(ours, theirs) {
         return Err(NoContext::Paths);
     }
     let sender = offers_of(ours);
@@ -45,11 +45,12 @@ fn agreed(ours: &Open, theirs: &Open) -> Result<WideTerms, NoContext>
 // What the first message and the other direction's agree on, where both are OPENs that are accepted.
 pub(crate) fn terms_of(
     alloc: Global,
+    reads_paths: bool,
     frame: Frame<'_>,
     theirs: &[u8],
 ) -> Result<Result<WideTerms, NoContext>, AllocError>
     requires { IsLength frame.kind (19 + length frame.body.now) }
-    ensures { IfOk result (λ terms. result_map_both wide_terms (λ why. why) terms ≡ agreed (open_in frame.entry.kind frame.entry.body.now) (first_open theirs.now)) }
+    ensures { IfOk result (λ terms. result_map_both wide_terms (λ why. why) terms ≡ agreed reads_paths (open_in frame.entry.kind frame.entry.body.now) (first_open theirs.now)) }
 {
     let Some(ours) = open_in(alloc, frame)? else {
         return Ok(Err(NoContext::NoOpen));
@@ -57,7 +58,7 @@ pub(crate) fn terms_of(
     let Some(theirs) = first_open(alloc, theirs)? else {
         return Ok(Err(NoContext::NoOpen));
     };
-    Ok(agreed(&ours, &theirs))
+    Ok(agreed(reads_paths, &ours, &theirs))
 }
 
 /// Runs a page over the messages of a stream, by what its first OPEN and that of the other direction agree on.

@@ -6,6 +6,7 @@ ghost use Rattle.bgp_engine.specs.Prelude.{CheckedBy, NarrowedBy, ShownBy, Shown
 use crate::checked::CheckPage;
 use crate::fault::ToolFault;
 use crate::form::{Json, Lines};
+use crate::identified::no_paths;
 use crate::narrowing::NarrowPage;
 use crate::opening::open_stream;
 use crate::shown::ShowPage;
@@ -27,8 +28,8 @@ pub(crate) const UNKNOWN: Context = Context {
 /// has the octets of the other direction, from its first message on: that message is enough.
 ///
 /// # Errors
-/// As `show`; `NoContext` where the first message of the stream, or of `theirs`, isn't a complete, valid OPEN, or where both agree on path identifiers for
-/// the stream's routes: nothing is written then. The stream's first message is read before that is reported.
+/// As `show`; `NoContext` where the first message of the stream, or of `theirs`, isn't a complete, valid OPEN: nothing is
+/// written then. The stream's first message is read before that is reported.
 pub fn show_by_opens<R: Read, W: Write>(
     alloc: Global,
     theirs: &[u8],
@@ -55,7 +56,7 @@ pub fn show_by_opens_within<R: Read, W: Write>(
 ) -> Result<Tally, ToolFault>
     ensures { Answers (ShownBy theirs.now) hex (io R.remaining input.old input.new W.contents output.old output.new) result }
 {
-    let page = ShowPage::new(alloc, UNKNOWN, Lines);
+    let page = ShowPage::new(alloc, UNKNOWN, no_paths(), Lines);
     open_stream(alloc, turns, theirs, hex, page, input, output)
 }
 
@@ -89,7 +90,7 @@ pub fn show_json_by_opens_within<R: Read, W: Write>(
 ) -> Result<Tally, ToolFault>
     ensures { Answers (ShownJsonBy theirs.now) hex (io R.remaining input.old input.new W.contents output.old output.new) result }
 {
-    let page = ShowPage::new(alloc, UNKNOWN, Json);
+    let page = ShowPage::new(alloc, UNKNOWN, no_paths(), Json);
     open_stream(alloc, turns, theirs, hex, page, input, output)
 }
 
@@ -123,10 +124,7 @@ pub fn check_by_opens_within<R: Read, W: Write>(
 ) -> Result<Tally, ToolFault>
     ensures { Answers (CheckedBy theirs.now) hex (io R.remaining input.old input.new W.contents output.old output.new) result }
 {
-    let page = CheckPage {
-        ctx: UNKNOWN,
-        text: String::new(alloc),
-    };
+    let page = CheckPage::new(alloc, UNKNOWN, no_paths());
     open_stream(alloc, turns, theirs, hex, page, input, output)
 }
 
@@ -134,7 +132,8 @@ pub fn check_by_opens_within<R: Read, W: Write>(
 /// 4-octet AS numbers.
 ///
 /// # Errors
-/// As `narrow_stream`; `NoContext` as in `show_by_opens`, and where they don't agree on 4-octet AS numbers.
+/// As `narrow_stream`; `NoContext` as in `show_by_opens`, where they don't agree on 4-octet AS numbers, and where they agree on path identifiers for the
+/// stream's routes.
 pub fn narrow_by_opens<R: Read, W: Write>(
     alloc: Global,
     theirs: &[u8],

@@ -19,6 +19,7 @@ pub(crate) trait Page {
     ghost use Rattle.std.specs.Prelude.{◌≡◌};
     ghost use Rattle.bgp_engine.specs.Rules.{Rules};
     ghost use Rattle.bgp_engine.specs.steps.Pages.{Plan};
+    ghost use Rattle.bgp_engine.specs.Agree.{Fit};
 
     /// The outcome of a message.
     ghost Outcome: { Type 0 };
@@ -26,14 +27,18 @@ pub(crate) trait Page {
     ghost rules: { Self → Rules Outcome };
     /// What isn't written yet.
     ghost told: { Self → List ℕ };
-    /// Whether it can be written by what both OPENs agree on.
-    ghost fits: { Agreed → Bool };
+    /// By which terms of both OPENs it can be written.
+    ghost fits: { Fit };
     /// The rules by which it is written, the first message too: by what both OPENs agree on, or as it is.
     ghost plan: { Self → Option Agreed → Plan Kind Outcome };
 
+    /// Whether it can be written of routes with path identifiers.
+    fn reads_paths(&self) -> bool
+        ensures { result ≡ fits.reads_paths };
+
     /// Sets what was agreed on for the stream, before its first message. Answers whether the page can be written so.
     fn agree(&mut self, terms: &WideTerms) -> bool
-        ensures fits { result ≡ fits (wide_terms terms.now) }
+        ensures fits { result ≡ fits.suits (wide_terms terms.now) }
         ensures plan { result ≡ true → plan self.new None ≡ plan self.old (Some (wide_terms terms.now)) }
         ensures told { told self.new ≡ told self.old };
 

@@ -1,17 +1,19 @@
 //! What is printed of a stream, in each style.
 
-ghost use Rattle.std.specs.Prelude.{true};
+ghost use Rattle.bgp_engine.specs.Agree.{any_plain};
 ghost use Rattle.bgp_engine.specs.Prelude.{Printed, PrintedBy, PrintedUnder, ReportedBy, Answers, io};
 ghost use Rattle.bgp_engine.specs.Below.{wide_terms};
+ghost use Rattle.bgp_paths.specs.Prelude.{path_families};
 ghost use Rattle.bgp_engine.specs.Explain.{Explained, ExplainedUnder};
 ghost use Rattle.bgp_engine.specs.OnlyFaults.{chosen};
 ghost use Rattle.bgp_engine.specs.Prelude.{IsReport, no_tally, wide_rules};
-ghost use Rattle.bgp_engine.specs.Show.{printed_rules};
+ghost use Rattle.bgp_engine.specs.Show.{path_rules};
 
 use crate::explaining::ExplainPage;
 use crate::fault::ToolFault;
 use crate::field_form::FieldForm;
 use crate::form::{Form, Json, Lines};
+use crate::identified::no_paths;
 use crate::only_faults::{Every, Faulty, OnlyFaults};
 use crate::opening::open_stream;
 use crate::opens::{UNKNOWN, show_by_opens_within, show_json_by_opens_within};
@@ -20,6 +22,7 @@ use crate::shown_json::show_json_within;
 use crate::tally::Tally;
 use crate::walk::{walk_stream, walk_under};
 use bgp_open::Context;
+use bgp_paths::PathFamilies;
 use bgp_terms::WideTerms;
 use std::alloc::Global;
 use std::io::{Read, Write};
@@ -69,7 +72,7 @@ fn explain_by_opens<F: FieldForm + Drop, R: Read, W: Write>(
     input: &mut R,
     output: &mut W,
 ) -> Result<Tally, ToolFault>
-    ensures { Answers (ReportedBy (λ terms. true) theirs.now (ExplainedUnder F.form (chosen only_faults))) hex (io R.remaining input.old input.new W.contents output.old output.new) result }
+    ensures { Answers (ReportedBy any_plain theirs.now (ExplainedUnder F.form (chosen only_faults))) hex (io R.remaining input.old input.new W.contents output.old output.new) result }
 {
     if only_faults {
         let page = ExplainPage::new(alloc, UNKNOWN, form, Faulty);
@@ -118,11 +121,11 @@ pub fn print_within<R: Read, W: Write>(
         (Style::Lines, false) => show_within(alloc, turns, ctx, hex, input, output),
         (Style::Json, false) => show_json_within(alloc, turns, ctx, hex, input, output),
         (Style::Lines, true) => {
-            let page = ShowPage::new(alloc, *ctx, OnlyFaults { form: Lines });
+            let page = ShowPage::new(alloc, *ctx, no_paths(), OnlyFaults { form: Lines });
             walk_stream(turns, hex, page, input, output)
         }
         (Style::Json, true) => {
-            let page = ShowPage::new(alloc, *ctx, OnlyFaults { form: Json });
+            let page = ShowPage::new(alloc, *ctx, no_paths(), OnlyFaults { form: Json });
             walk_stream(turns, hex, page, input, output)
         }
         (Style::Explained, _) => {
@@ -163,14 +166,14 @@ fn show_under<F: Form + Drop, R: Read, W: Write>(
     input: &mut R,
     output: &mut W,
 ) -> Result<Tally, ToolFault>
-    ensures { Answers (IsReport (wide_rules (wide_terms terms.now).refresh (printed_rules F.shown F.shown_refresh F.shown_end (wide_terms terms.now).context)) 0 no_tally) hex (io R.remaining input.old input.new W.contents output.old output.new) result }
+    ensures { Answers (IsReport (wide_rules (wide_terms terms.now).refresh (path_rules F.shown F.shown_paths F.shown_refresh F.shown_end (path_families (wide_terms terms.now)) (wide_terms terms.now).context)) 0 no_tally) hex (io R.remaining input.old input.new W.contents output.old output.new) result }
 {
-    let page = ShowPage::new(alloc, terms.context, form);
+    let page = ShowPage::new(alloc, terms.context, PathFamilies::of(terms), form);
     walk_under(u32::MAX, hex, page, terms.refresh, input, output)
 }
 
-/// [`print`] by what was negotiated: a ROUTE-REFRESH is a message where the reader offers it (RFC 2918; RFC 7313). What else is agreed on beyond the
-/// context has no effect.
+/// [`print`] by what was negotiated: a ROUTE-REFRESH is a message where the reader offers it (RFC 2918; RFC 7313); routes have path identifiers where the
+/// terms say so (RFC 7911), but where fields are printed, for which these terms aren't meant. What else is agreed on beyond the context has no effect.
 ///
 /// # Errors
 /// As `print`.
@@ -250,11 +253,11 @@ pub fn print_by_opens_within<R: Read, W: Write>(
         (Style::Lines, false) => show_by_opens_within(alloc, turns, theirs, hex, input, output),
         (Style::Json, false) => show_json_by_opens_within(alloc, turns, theirs, hex, input, output),
         (Style::Lines, true) => {
-            let page = ShowPage::new(alloc, UNKNOWN, OnlyFaults { form: Lines });
+            let page = ShowPage::new(alloc, UNKNOWN, no_paths(), OnlyFaults { form: Lines });
             open_stream(alloc, turns, theirs, hex, page, input, output)
         }
         (Style::Json, true) => {
-            let page = ShowPage::new(alloc, UNKNOWN, OnlyFaults { form: Json });
+            let page = ShowPage::new(alloc, UNKNOWN, no_paths(), OnlyFaults { form: Json });
             open_stream(alloc, turns, theirs, hex, page, input, output)
         }
         (Style::Explained, _) => {

@@ -4,13 +4,16 @@ ghost use Rattle.std.specs.Prelude.{◌≡◌, ◌+◌, ◌++◌, [], Some, leng
 ghost use Rattle.bgp_engine.specs.Below.{string_bytes, IsLength, message_in, of_fault, out_of, header_place};
 ghost use Rattle.bgp_engine.specs.Below.{reset_place};
 ghost use Rattle.bgp_engine.specs.Run.{Answers, io};
-ghost use Rattle.bgp_engine.specs.steps.PageSteps.{WritesOutcome};
+ghost use Rattle.bgp_engine.specs.steps.PageSteps.{WritesIdentified, WritesOutcome};
+ghost use Rattle.bgp_frame.specs.declared.kind.Kind.{Kind};
+ghost use Rattle.bgp_paths.specs.Prelude.{outcome_with};
 ghost use Rattle.bgp_engine.specs.Show.{Shown};
 
 use crate::class::{Class, class_of};
 use crate::fault::ToolFault;
 use crate::form::{Form, Lines};
 use crate::heard::span_of;
+use crate::identified::{is_identified, no_paths, used_runs};
 use crate::page::Page;
 use crate::refreshing::{refresh_span, view_of};
 use crate::tally::Tally;
@@ -19,6 +22,7 @@ use bgp_fields::header_span;
 use bgp_frame::{Frame, HeadFault, Notification};
 use bgp_msg::{OutcomeView, view_frame};
 use bgp_open::Context;
+use bgp_paths::{PathFamilies, PathShifts, PlainBody, path_runs, view_received};
 use bgp_refresh::RefreshView;
 use bgp_terms::WideTerms;
 use bgp_update::UpdateView;
@@ -30,6 +34,10 @@ use std::io::{Read, Write};
 pub(crate) struct ShowPage<F> {
     alloc: Global,
     ctx: Context,
+    /// Whose routes have path identifiers.
+    families: PathFamilies,
+    /// The body of an UPDATE without them.
+    plain: PlainBody,
     form: F,
     text: String,
 }
@@ -38,14 +46,17 @@ impl<F: Form> ShowPage<F> {
     ghost use Rattle.std.specs.Prelude.{◌≡◌, []};
     ghost use Rattle.bgp_engine.specs.Below.{string_bytes};
 
-    /// An empty page.
-    pub(crate) fn new(alloc: Global, ctx: Context, form: F) -> ShowPage<F>
+    /// An empty page, of messages whose routes of these families have path identifiers.
+    pub(crate) fn new(alloc: Global, ctx: Context, families: PathFamilies, form: F) -> ShowPage<F>
         ensures context { result.ctx ≡ ctx }
+        ensures families { result.families ≡ families }
         ensures empty { string_bytes result.text ≡ [] }
     {
         ShowPage {
             alloc,
             ctx,
+            families,
+            plain: PlainBody::new(),
             form,
             text: String::new(alloc),
         }
@@ -70,6 +81,31 @@ fn put_frame<F: Form>(
     let outcome = view_frame(ctx, frame, &mut view);
     let span = span_of(ctx, frame, &outcome);
     form.put(alloc, text, place, len, span, &outcome)?;
+    Ok(class_of(&outcome))
+}
+
+// Adds the text of an UPDATE whose routes have path identifiers.
+fn put_identified<F: Form>(
+    form: &F,
+    alloc: Global,
+    ctx: &Context,
+    families: PathFamilies,
+    plain: &mut PlainBody,
+    text: &mut String,
+    place: u64,
+    frame: Frame<'_>,
+) -> Result<Class, AllocError>
+    requires { IsLength Kind.Update (19 + length frame.body.now) }
+    ensures { IfOk result (λ class. WritesIdentified F.shown_paths families ctx.now (string_bytes text.old) (string_bytes text.new) place frame.entry.len frame.entry.body.now
+        (outcome_with ctx.now families frame.entry.body.now) class) }
+{
+    let body = frame.body;
+    plain.fill(families, body);
+    let runs = used_runs(ctx.ip4, path_runs(families, body));
+    let shifts = PathShifts::between(plain.as_slice(), body);
+    let mut view = UpdateView::empty();
+    let outcome = view_received(ctx, body, plain.as_slice(), &mut view);
+    form.put_paths(alloc, text, place, frame.len, &runs, &shifts, &outcome)?;
     Ok(class_of(&outcome))
 }
 
@@ -98,26 +134,33 @@ fn put_fault<F: Form>(
 }
 
 impl<F: Form> Page for ShowPage<F> {
+    ghost use Rattle.bgp_engine.specs.Agree.{any_terms};
     ghost use Rattle.std.specs.Prelude.{refl};
     ghost use Rattle.bgp_engine.specs.Below.{true, string_bytes};
     ghost use Rattle.bgp_engine.specs.Heard.{Heard};
-    ghost use Rattle.bgp_engine.specs.Show.{printed_rules};
+    ghost use Rattle.bgp_engine.specs.Identified.{families_or};
+    ghost use Rattle.bgp_engine.specs.Show.{path_rules};
     ghost use Rattle.bgp_engine.specs.steps.Pages.{context_or, plain};
 
     ghost Outcome = { Heard };
 
-    ghost rules = { λ page. printed_rules F.shown F.shown_refresh F.shown_end page.ctx };
+    ghost rules = { λ page. path_rules F.shown F.shown_paths F.shown_refresh F.shown_end page.families page.ctx };
 
     ghost told = { λ page. string_bytes page.text };
 
-    ghost fits = { λ _. true };
+    ghost fits = { any_terms };
 
-    ghost plan = { λ page terms. plain (printed_rules F.shown F.shown_refresh F.shown_end (context_or page.ctx terms)) };
+    ghost plan = { λ page terms. plain (path_rules F.shown F.shown_paths F.shown_refresh F.shown_end (families_or page.families terms) (context_or page.ctx terms)) };
 
     ghost plainly = { λ _. refl };
 
+    fn reads_paths(&self) -> bool {
+        true
+    }
+
     fn agree(&mut self, terms: &WideTerms) -> bool {
         self.ctx = terms.context;
+        self.families = PathFamilies::of(terms);
         true
     }
 
@@ -126,6 +169,18 @@ impl<F: Form> Page for ShowPage<F> {
     }
 
     fn message(&mut self, place: u64, frame: Frame<'_>) -> Result<Class, AllocError> {
+        if is_identified(self.families, frame.kind) {
+            return put_identified(
+                &self.form,
+                self.alloc,
+                &self.ctx,
+                self.families,
+                &mut self.plain,
+                &mut self.text,
+                place,
+                frame,
+            );
+        }
         put_frame(
             &self.form,
             self.alloc,
@@ -218,6 +273,6 @@ pub fn show_within<R: Read, W: Write>(
 ) -> Result<Tally, ToolFault>
     ensures { Answers (Shown ctx.now) hex (io R.remaining input.old input.new W.contents output.old output.new) result }
 {
-    let page = ShowPage::new(alloc, *ctx, Lines);
+    let page = ShowPage::new(alloc, *ctx, no_paths(), Lines);
     walk_stream(turns, hex, page, input, output)
 }

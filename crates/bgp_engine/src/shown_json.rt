@@ -5,6 +5,7 @@ ghost use Rattle.bgp_engine.specs.ShowJson.{ShownJson};
 
 use crate::fault::ToolFault;
 use crate::form::Json;
+use crate::identified::no_paths;
 use crate::shown::ShowPage;
 use crate::tally::Tally;
 use crate::walk::walk_stream;
@@ -43,6 +44,6 @@ pub fn show_json_within<R: Read, W: Write>(
 ) -> Result<Tally, ToolFault>
     ensures { Answers (ShownJson ctx.now) hex (io R.remaining input.old input.new W.contents output.old output.new) result }
 {
-    let page = ShowPage::new(alloc, *ctx, Json);
+    let page = ShowPage::new(alloc, *ctx, no_paths(), Json);
     walk_stream(turns, hex, page, input, output)
 }

@@ -59,7 +59,7 @@ fn settle<P: Page>(
     let Some(theirs) = theirs else {
         return Ok(Ok(refreshes));
     };
-    let terms = match terms_of(alloc, frame, theirs)? {
+    let terms = match terms_of(alloc, page.reads_paths(), frame, theirs)? {
         Ok(terms) => terms,
         Err(why) => return Ok(Err(why)),
     };

@@ -1,5 +1,4 @@
 -- Path identifiers.
 pub mod Routes
 pub mod Lengths
-pub mod FirstRuns
 pub mod Same

@@ -3,6 +3,8 @@ pub mod Families
 pub mod Route
 pub mod PathIter
 pub mod Plain
-pub mod Runs
 pub mod Places
+pub mod Runs
+pub mod Numbers
+pub mod Outcome
 pub mod Prelude

@@ -4,13 +4,16 @@ use Rattle.std.specs.Prelude.{◌==◌, ◌||◌, ℕ, ◌+◌, ◌-◌, nat_lt,
 use Rattle.std.specs.List.{find}
 use Rattle.std.specs.Option.{unwrap_or}
 use Rattle.bgp_numbers.specs.declared.attribute.TheConstants.{MP_REACH_NLRI, MP_UNREACH_NLRI}
-use Rattle.bgp_attr.specs.Prelude.{PlacedTlv, placed_from, tlvs_of}
+use Rattle.bgp_attr.specs.Prelude.{PlacedTlv, TlvValue, placed_from, tlvs_of}
 use Rattle.bgp_update.specs.Prelude.{Parts}
 use Rattle.bgp_paths.specs.declared.places.PathShifts.{PathShifts}
 use Rattle.bgp_paths.specs.declared.places.Shift.{Shift}
 
 abbrev pub first_of_type : ℕ → List ℕ → Option PlacedTlv
 first_of_type kind field = find (λ q. q.tlv.kind == kind) (placed_from 0 (tlvs_of field).0)
+
+abbrev pub first_tlv : ℕ → List ℕ → Option TlvValue
+first_tlv kind field = option_map (λ q. q.tlv) (first_of_type kind field)
 
 -- the number of octets by which an offset grows for one attribute before it
 abbrev pub shift_between : Option PlacedTlv → Option PlacedTlv → ℕ → ℕ

@@ -5,4 +5,6 @@ unfoldable pub use Rattle.bgp_paths.specs.Route.{one_path_prefix}
 pub use Rattle.bgp_paths.specs.PathIter.{paths_left}
 pub use Rattle.bgp_paths.specs.Plain.{head_length, left_over, octets_of_parts, parts_in, plain_at, plain_attribute, plain_behind, plain_body, plain_field, plain_of, plain_parts, plain_routes, plain_run, plain_tlv, value_at}
 pub use Rattle.bgp_paths.specs.Runs.{ArePartRuns, AreRuns, attribute_run, attribute_run_in, family_run, field_run, first_or_zero, later_of, numbers_left, numbers_of, run_behind, run_of_type, runs_value}
-pub use Rattle.bgp_paths.specs.Places.{carries, data_in, first_of_type, place_between, place_in_parts, received_in, shift_between, shift_by, shift_value, shifted, type_at}
+pub use Rattle.bgp_paths.specs.Places.{carries, data_in, first_of_type, first_tlv, place_between, place_in_parts, received_in, shift_between, shift_by, shift_value, shifted, type_at}
+pub use Rattle.bgp_paths.specs.Numbers.{PathNumbers, attribute_numbers, family_numbers, no_numbers, numbers4, numbers6, numbers_behind, numbers_in, path_numbers}
+pub use Rattle.bgp_paths.specs.Outcome.{as_received, outcome_with}

@@ -1,8 +1,7 @@
 -- The path identifiers of a message's routes, by their part of the message (RFC 7911, section 3).
-use Rattle.std.specs.Prelude.{◌≡◌, ◌==◌, ℕ, nat_le, Bool, List, [], ◌∷◌, map, drop, length, Option, None, Some, if◌then◌else◌}
-use Rattle.std.specs.List.{find}
+use Rattle.std.specs.Prelude.{◌≡◌, ℕ, nat_le, Bool, List, [], ◌∷◌, map, drop, length, Option, None, Some, if◌then◌else◌}
 use Rattle.bgp_numbers.specs.declared.attribute.TheConstants.{MP_REACH_NLRI, MP_UNREACH_NLRI}
-use Rattle.bgp_attr.specs.Prelude.{TlvValue, tlvs_of}
+use Rattle.bgp_attr.specs.Prelude.{TlvValue}
 use Rattle.bgp_update.specs.Prelude.{Parts, parts_of}
 use Rattle.bgp_paths.specs.declared.families.PathFamilies.{PathFamilies}
 use Rattle.bgp_paths.specs.declared.families.Width.{Width}
@@ -10,6 +9,7 @@ use Rattle.bgp_paths.specs.declared.runs.PathRun.{PathRun}
 use Rattle.bgp_paths.specs.declared.runs.PathRun.TheVariants.{Empty, Ip4, Ip6}
 use Rattle.bgp_paths.specs.declared.runs.PathRuns.{PathRuns}
 use Rattle.bgp_paths.specs.Families.{identified, width_of}
+use Rattle.bgp_paths.specs.Places.{first_tlv}
 use Rattle.bgp_paths.specs.Plain.{head_length}
 use Rattle.bgp_paths.specs.Route.{PathPrefixValue, path_prefixes}
 
@@ -56,7 +56,7 @@ attribute_run_in f (Some t) = attribute_run f t
 
 -- that of the first attribute of a type
 abbrev pub run_of_type : PathFamilies → List ℕ → ℕ → List PathPrefixValue
-run_of_type f field kind = attribute_run_in f (find (λ t. t.kind == kind) (tlvs_of field).0)
+run_of_type f field kind = attribute_run_in f (first_tlv kind field)
 
 -- each in its part; none where the lengths of the body leave no room for each other
 abbrev pub ArePartRuns : PathFamilies → Option Parts → PathRuns → Type 0

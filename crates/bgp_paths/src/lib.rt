@@ -4,6 +4,7 @@
 mod changing;
 mod families;
 pub mod laws;
+mod outcome;
 mod path_iter;
 mod places;
 mod plain_body;
@@ -13,6 +14,7 @@ mod route;
 mod runs;
 
 pub use families::PathFamilies;
+pub use outcome::view_received;
 pub use path_iter::PathIter;
 pub use places::{PathShifts, data_received};
 pub use plain_body::PlainBody;

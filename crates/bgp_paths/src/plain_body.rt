@@ -8,7 +8,7 @@ ghost use Rattle.bgp_paths.specs.Plain.{octets_of_parts, parts_in, plain_body, p
 use crate::families::PathFamilies;
 use crate::plain_field::put_field;
 use crate::plain_routes::{BODY, put, put_run};
-use bgp_wire::{Output, Page};
+use bgp_wire::{Output, Page, are_octets};
 use std::marker::Model;
 
 /// The octets after a length of two octets, and what follows them.
@@ -62,6 +62,7 @@ impl PlainBody {
     ghost use Rattle.std.specs.Prelude.{[]};
 
     /// A place without octets.
+    #[inline(always)]
     pub fn new() -> PlainBody
         ensures { result ≡ [] }
     {
@@ -104,8 +105,11 @@ impl PlainBody {
     /// after the last whole route of a run become one octet with which no prefix begins: so the verdict on the body is that on the routes.
     pub fn fill(&mut self, families: PathFamilies, body: &[u8])
         requires { length body.now ≤ 4077 }
-        ensures { self.new ≡ plain_body families body.now }
+        ensures body { self.new ≡ plain_body families body.now }
+        ensures shorter { length self.new ≤ length body.now }
+        ensures longer { 4 ≤ length body.now → 4 ≤ length self.new }
     {
+        are_octets(body);
         match split_body(body) {
             None => {
                 self.octets.truncate(0);

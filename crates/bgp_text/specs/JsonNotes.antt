@@ -8,10 +8,13 @@ abbrev pub why_json : Why → List ℕ
 why_json w = quoted (why_name w)
 
 -- the offset of an attribute in the body, its type, its name, and why it isn't kept
-unfoldable pub note_json : Note → List ℕ
-note_json n =
-    codes "{\"at\":" ++ (decimal n.at ++ (member (codes "type") decimal n.kind ++ (where_named (codes "name") (attribute_name n.kind)
+unfoldable pub note_json_at : ℕ → Note → List ℕ
+note_json_at at n =
+    codes "{\"at\":" ++ (decimal at ++ (member (codes "type") decimal n.kind ++ (where_named (codes "name") (attribute_name n.kind)
     ++ (member (codes "why") why_json n.why ++ codes "}"))))
+
+abbrev pub note_json : Note → List ℕ
+note_json n = note_json_at n.at n
 
 abbrev pub notes_member : List Note → List ℕ
 notes_member notes = member (codes "notes") (listed note_json) notes

@@ -23,6 +23,9 @@ pub mod OpenLines
 pub mod UpdateLines
 pub mod Outcome
 pub mod RefreshLine
+pub mod Beside
+pub mod PlacedNotes
+pub mod PathLines
 pub mod Explained
 pub mod Json
 pub mod JsonAddress
@@ -34,6 +37,7 @@ pub mod JsonOpen
 pub mod JsonUpdate
 pub mod JsonOutcome
 pub mod JsonRefresh
+pub mod JsonPaths
 pub mod JsonFields
 pub mod JsonEnd
 pub mod steps

@@ -20,5 +20,8 @@ why_name Why.Missing = codes "Missing"
 why_name Why.AsZero = codes "AsZero"
 
 -- the offset of an attribute in the body, its type, and why it isn't kept
+abbrev pub note_line_at : ℕ → Note → List ℕ
+note_line_at at n = codes "  note " ++ (decimal at ++ (codes " " ++ (decimal n.kind ++ (codes " " ++ (why_name n.why ++ 10 ∷ [])))))
+
 abbrev pub note_line : Note → List ℕ
-note_line n = codes "  note " ++ (decimal n.at ++ (codes " " ++ (decimal n.kind ++ (codes " " ++ (why_name n.why ++ 10 ∷ [])))))
+note_line n = note_line_at n.at n

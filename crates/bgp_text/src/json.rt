@@ -1,6 +1,6 @@
 //! Parts of JSON text.
 
-ghost use Rattle.std.specs.Prelude.{◌≡◌, ◌+◌, ◌≤◌, ◌++◌, OnOk};
+ghost use Rattle.std.specs.Prelude.{◌≡◌, ◌+◌, ◌≤◌, ◌++◌, codes, OnOk};
 ghost use Rattle.bgp_text.specs.Below.{decimal, flat_map, string_bytes, hex_octet};
 ghost use Rattle.bgp_text.specs.Json.{quoted, octets_json, boolean, named, member, line_end, where_named, where_said};
 
@@ -155,6 +155,13 @@ pub(crate) fn put_flag_member(text: &mut String, name: &str, is_so: bool) -> Res
 {
     put_name(text, name)?;
     text.push_str(boolean(is_so))
+}
+
+/// Adds the end of an object.
+pub(crate) fn put_object_end(text: &mut String) -> Result<(), AllocError>
+    ensures { OnOk result (string_bytes text.new ≡ string_bytes text.old ++ codes "}") }
+{
+    text.push_str("}")
 }
 
 /// Adds the end of an object and of its line.

@@ -19,7 +19,7 @@ use std::alloc::AllocError;
 
 /// Adds the beginning of an object: an address family, unicast.
 #[tactic(auto, unfolding(crate::specs::JsonMp::family_json))]
-fn put_family(text: &mut String, family: u16) -> Result<(), AllocError>
+pub(crate) fn put_family(text: &mut String, family: u16) -> Result<(), AllocError>
     ensures { OnOk result (string_bytes text.new ≡ string_bytes text.old ++ family_json family) }
 {
     text.push_str("{\"afi\":")?;
@@ -43,7 +43,10 @@ fn put_ip4_reach(
 }
 
 /// Adds the link-local next hop, if it is present.
-fn put_link_local(text: &mut String, link_local: Option<[u8; 16]>) -> Result<(), AllocError>
+pub(crate) fn put_link_local(
+    text: &mut String,
+    link_local: Option<[u8; 16]>,
+) -> Result<(), AllocError>
     ensures { OnOk result (string_bytes text.new ≡ string_bytes text.old ++ where_there (member (codes "link_local") ip6_json) link_local) }
 {
     match link_local {

@@ -104,7 +104,7 @@ fn put_taken(
     ensures { OnOk result (string_bytes text.new ≡ string_bytes text.old ++ took_members place len (message.Update (update_value view.now)) (notes_value view.now)) }
 {
     put_judged(text, place, len, "UPDATE", "take")?;
-    put_members::<Json>(alloc, text, view)?;
+    put_members(&Json, alloc, text, view)?;
     put_notes_member(text, view)
 }
 

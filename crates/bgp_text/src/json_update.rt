@@ -21,14 +21,15 @@ pub(crate) struct Json;
 impl Form for Json {
     ghost use Rattle.bgp_text.specs.JsonUpdate.{in_json};
 
-    ghost shown = { in_json };
+    ghost shown = { λ _. in_json };
 
-    fn put_withdrawn(text: &mut String, routes: PrefixIter4<'_>) -> Result<(), AllocError> {
+    fn put_withdrawn(&self, text: &mut String, routes: PrefixIter4<'_>) -> Result<(), AllocError> {
         put_list_member(text, "withdrawn", routes)
     }
 
     #[inline(always)]
     fn put_attribute(
+        &self,
         _alloc: Global,
         text: &mut String,
         attr: &AttrView<'_>,
@@ -37,6 +38,7 @@ impl Form for Json {
     }
 
     fn put_others(
+        &self,
         _alloc: Global,
         text: &mut String,
         others: &[OpaqueView<'_>],
@@ -44,7 +46,7 @@ impl Form for Json {
         put_others(text, others)
     }
 
-    fn put_nlri(text: &mut String, routes: PrefixIter4<'_>) -> Result<(), AllocError> {
+    fn put_nlri(&self, text: &mut String, routes: PrefixIter4<'_>) -> Result<(), AllocError> {
         put_list_member(text, "nlri", routes)
     }
 }
@@ -61,8 +63,18 @@ fn put_joined_routes(text: &mut String, routes: &Routes) -> Result<(), AllocErro
     put_further(text, ip6)
 }
 
-/// Adds the routes of an UPDATE that is treated as a withdrawal. They are collected first: such an UPDATE is rare.
+/// Adds these routes as a list.
 #[tactic(auto, unfolding(crate::specs::JsonUpdate::routes_json))]
+pub(crate) fn put_routes_of(text: &mut String, routes: &Routes) -> Result<(), AllocError>
+    ensures { OnOk result (string_bytes text.new ≡ string_bytes text.old ++ member (codes "routes") routes_json routes.now) }
+{
+    put_name(text, "routes")?;
+    text.push_str("[")?;
+    put_joined_routes(text, routes)?;
+    text.push_str("]")
+}
+
+/// Adds the routes of an UPDATE that is treated as a withdrawal. They are collected first: such an UPDATE is rare.
 pub(crate) fn put_routes_member(
     alloc: Global,
     text: &mut String,
@@ -71,8 +83,5 @@ pub(crate) fn put_routes_member(
     ensures { OnOk result (string_bytes text.new ≡ string_bytes text.old ++ member (codes "routes") routes_json (routes_value view.now)) }
 {
     let routes = view.routes(alloc)?;
-    put_name(text, "routes")?;
-    text.push_str("[")?;
-    put_joined_routes(text, &routes)?;
-    text.push_str("]")
+    put_routes_of(text, &routes)
 }

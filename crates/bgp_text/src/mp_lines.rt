@@ -12,7 +12,7 @@ use bgp_prefix::Address;
 use std::alloc::AllocError;
 
 /// The next hop of IPv6 routes: its global address, and its link-local one.
-fn put_ip6_next(
+pub(crate) fn put_ip6_next(
     text: &mut String,
     next_hop: [u8; 16],
     link_local: Option<[u8; 16]>,
@@ -48,7 +48,7 @@ pub(crate) fn put_reach(text: &mut String, reach: MpReachView<'_>) -> Result<(),
 }
 
 /// The family of withdrawn routes.
-fn put_family(text: &mut String, family: &str) -> Result<(), AllocError>
+pub(crate) fn put_family(text: &mut String, family: &str) -> Result<(), AllocError>
     ensures { OnOk result (string_bytes text.new ≡ string_bytes text.old ++ family_line family.now) }
 {
     write!(text, "  mp_unreach {family}\n")

@@ -1,9 +1,13 @@
 //! The lines of notes.
 
 ghost use Rattle.std.specs.Prelude.{◌≡◌, ◌++◌, OnOk};
-ghost use Rattle.bgp_text.specs.Below.{flat_map, string_bytes, notes_value};
-ghost use Rattle.bgp_text.specs.NoteLines.{why_name, note_line};
+ghost use Rattle.bgp_text.specs.Below.{flat_map, string_bytes, notes_left, notes_value};
+ghost use Rattle.bgp_text.specs.NoteLines.{why_name, note_line, note_line_at};
+ghost use Rattle.bgp_text.specs.PlacedNotes.{placed_line, placed_notes};
+ghost use Rattle.bgp_paths.specs.Prelude.{shifted};
 
+use crate::placed_notes::PlacedNotes;
+use crate::source::Source;
 use bgp_attr::Why;
 use bgp_update::{Note, UpdateView};
 use std::alloc::AllocError;
@@ -31,10 +35,9 @@ pub fn why_name(why: Why) -> &'static str
     }
 }
 
-fn put_note(text: &mut String, note: Note) -> Result<(), AllocError>
-    ensures { OnOk result (string_bytes text.new ≡ string_bytes text.old ++ note_line note) }
+fn put_note(text: &mut String, at: u64, note: Note) -> Result<(), AllocError>
+    ensures { OnOk result (string_bytes text.new ≡ string_bytes text.old ++ note_line_at at note) }
 {
-    let at = note.at;
     let kind = note.kind;
     let why = why_name(note.why);
     write!(text, "  note {at} {kind} {why}\n")
@@ -46,7 +49,18 @@ pub(crate) fn put_notes(text: &mut String, view: &UpdateView<'_>) -> Result<(), 
 {
     let mut left = view.notes();
     'row: while let Some(note) = left.next() {
-        put_note(text, note)?;
+        put_note(text, u64::from(note.at), note)?;
+    }
+    Ok(())
+}
+
+/// Adds the lines of notes at other offsets.
+pub(crate) fn put_placed_notes(text: &mut String, notes: PlacedNotes<'_>) -> Result<(), AllocError>
+    ensures { OnOk result (string_bytes text.new ≡ string_bytes text.old ++ flat_map placed_line (placed_notes (shifted notes.entry.shifts) (notes_left notes.entry.notes))) }
+{
+    let mut left = notes;
+    'row: while let Some(placed) = left.step() {
+        put_note(text, placed.at, placed.note)?;
     }
     Ok(())
 }

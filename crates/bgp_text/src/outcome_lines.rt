@@ -22,7 +22,12 @@ use std::alloc::{AllocError, Global};
 
 /// A message's offset in the stream, its length, and what it is, in ASCII.
 #[inline(always)]
-fn put_head(text: &mut String, place: u64, len: u16, name: &str) -> Result<(), AllocError>
+pub(crate) fn put_head(
+    text: &mut String,
+    place: u64,
+    len: u16,
+    name: &str,
+) -> Result<(), AllocError>
     requires short { length name.now ≤ 20 }
     requires ascii { list_all is_ascii name.now ≡ true }
     ensures { OnOk result (string_bytes text.new ≡ string_bytes text.old ++ head_line place len name.now) }
@@ -76,7 +81,7 @@ fn put_update(
     ensures { OnOk result (string_bytes text.new ≡ string_bytes text.old ++ message_lines place len (message.Update (update_value view.now))) }
 {
     put_head(text, place, len, "UPDATE take")?;
-    put_members::<Lines>(alloc, text, view)
+    put_members(&Lines, alloc, text, view)
 }
 
 /// An accepted UPDATE.

@@ -20,15 +20,16 @@ pub(crate) struct Lines;
 impl Form for Lines {
     ghost use Rattle.bgp_text.specs.UpdateLines.{in_lines};
 
-    ghost shown = { in_lines };
+    ghost shown = { λ _. in_lines };
 
     #[inline(always)]
-    fn put_withdrawn(text: &mut String, routes: PrefixIter4<'_>) -> Result<(), AllocError> {
+    fn put_withdrawn(&self, text: &mut String, routes: PrefixIter4<'_>) -> Result<(), AllocError> {
         put_lines(text, "  withdrawn ", routes)
     }
 
     #[inline(always)]
     fn put_attribute(
+        &self,
         alloc: Global,
         text: &mut String,
         attr: &AttrView<'_>,
@@ -37,6 +38,7 @@ impl Form for Lines {
     }
 
     fn put_others(
+        &self,
         alloc: Global,
         text: &mut String,
         others: &[OpaqueView<'_>],
@@ -45,7 +47,7 @@ impl Form for Lines {
     }
 
     #[inline(always)]
-    fn put_nlri(text: &mut String, routes: PrefixIter4<'_>) -> Result<(), AllocError> {
+    fn put_nlri(&self, text: &mut String, routes: PrefixIter4<'_>) -> Result<(), AllocError> {
         put_lines(text, "  nlri ", routes)
     }
 }

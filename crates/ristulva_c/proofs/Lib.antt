@@ -14,7 +14,6 @@ pub mod PartPlaces
 pub mod JudgedIn
 pub mod JudgedPaths
 pub mod Refreshes
-pub mod PlainLengths
 pub mod PlainMessages
 pub mod Streams
 pub mod TermsSaid

@@ -10,10 +10,7 @@ use Rattle.bgp_frame.proofs.FrameLemmas.{length-IsFrame}
 use Rattle.bgp_terms.specs.Prelude.{Agreed}
 use Rattle.bgp_wide.specs.Prelude.{is_offered, types_in}
 use Rattle.bgp_wide.proofs.Bases.{base_frame}
-use Rattle.bgp_paths.specs.declared.families.PathFamilies.{PathFamilies}
-use Rattle.bgp_paths.specs.Prelude.{plain_body}
 use Rattle.ristulva_c.specs.Paths.{is_update}
-use Rattle.ristulva_c.proofs.PlainLengths.{plain_shorter}
 
 -- the length of an UPDATE that is found is allowed
 pub update_allowed : (t : Agreed) (octets : List ℕ) (kind : WideKind) (len : ℕ) (body : List ℕ) → is_update kind ≡ true
@@ -28,7 +25,8 @@ update_allowed t octets (wide.Base kinds.Keepalive) len body is shows = absurd c
 update_allowed t octets wide.Refresh len body is shows = absurd cc
 
 -- and so is that without path identifiers
-pub plain_allowed : (f : PathFamilies) (body : List ℕ) → AreOctets body → IsLength kinds.Update (19 + length body) → IsLength kinds.Update (19 + length (plain_body f body))
-plain_allowed f body are allowed =
-    let shorter = plain_shorter f body are (omega (arith, allowed.least)) in
-    record { least = omega (arith, shorter.least); most = omega (arith, shorter.most, allowed.most) }
+pub plain_allowed : (body plain : List ℕ) → length plain ≤ length body → (4 ≤ length body → 4 ≤ length plain) → IsLength kinds.Update (19 + length body)
+    → IsLength kinds.Update (19 + length plain)
+plain_allowed body plain shorter longer allowed =
+    let least = longer (omega (arith, allowed.least)) in
+    record { least = omega (arith, least); most = omega (arith, shorter, allowed.most) }

@@ -1,7 +1,6 @@
 -- The outcome of a message whose routes have path identifiers (RFC 7911), in numbers.
 use Rattle.std.specs.Prelude.{◌≡◌, ℕ, Bool, true, false, ◌&&◌, ◌||◌, List, Option, None, Some}
 use Rattle.bgp_numbers.specs.declared.message.TheConstants.{UPDATE}
-use Rattle.bgp_frame.specs.declared.kind.Kind.TheVariants as kind
 use Rattle.bgp_frame.specs.declared.kind.WideKind.{WideKind}
 use Rattle.bgp_frame.specs.declared.step.Step.TheVariants as step
 use Rattle.bgp_frame.specs.Step.{StepIn}
@@ -9,11 +8,9 @@ use Rattle.bgp_frame.specs.Prelude.{ShowsFrontIn}
 use Rattle.bgp_open.specs.declared.context.Context.{Context}
 use Rattle.bgp_update.specs.Prelude.{parts_of}
 use Rattle.bgp_update.specs.Parts as update
-use Rattle.bgp_msg.specs.Prelude.{of_fault, out_of}
-use Rattle.bgp_msg.specs.declared.outcome.Outcome.{Outcome}
-use Rattle.bgp_msg.specs.declared.outcome.Outcome.TheVariants as outcome
+use Rattle.bgp_msg.specs.Prelude.{of_fault}
 use Rattle.bgp_paths.specs.declared.families.PathFamilies.{PathFamilies}
-use Rattle.bgp_paths.specs.Prelude.{data_in, plain_body}
+use Rattle.bgp_paths.specs.Prelude.{outcome_with}
 use Rattle.bgp_terms.specs.Prelude.{Agreed}
 use Rattle.bgp_wide.specs.Prelude.{types_in}
 use Rattle.ristulva_c.specs.declared.status.TheConstants.{INCOMPLETE, RANGE}
@@ -21,16 +18,6 @@ use Rattle.ristulva_c.specs.Judge.{IsLeft, IsTold, Judging, verdict_told}
 use Rattle.ristulva_c.specs.JudgeIn.{JudgesFrame}
 use Rattle.ristulva_c.specs.Parts.{Lie, parts_told}
 use Rattle.ristulva_c.specs.Paths.{is_update}
-
--- the outcome of the UPDATE without path identifiers; where the data of its NOTIFICATION are an attribute with routes, that which was received
-abbrev pub as_received : List ℕ → Outcome → Outcome
-as_received body (outcome.Took m notes) = outcome.Took m notes
-as_received body (outcome.Withdraw routes notes) = outcome.Withdraw routes notes
-as_received body (outcome.Reset n) =
-    outcome.Reset (record { code = n.code; subcode = n.subcode; info = record { items = data_in (parts_of body) n.info.items } })
-
-abbrev pub outcome_with : Context → PathFamilies → List ℕ → Outcome
-outcome_with ctx f body = as_received body (out_of ctx (record { kind = kind.Update; body = plain_body f body }))
 
 -- that outcome is written, with the offsets of the parts as they were received
 pub record JudgesUpdate (ctx : Context) (f : PathFamilies) (octets : List ℕ) (len : ℕ) (body : List ℕ) (j : Judging) : Type 0 where

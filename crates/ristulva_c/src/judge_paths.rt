@@ -1,13 +1,13 @@
 //! The outcome of a message whose routes have path identifiers (RFC 7911).
 
 ghost use Rattle.std.specs.Prelude.{◌≡◌, ◌+◌, ◌≤◌, length};
-ghost use Rattle.bgp_frame.specs.Prelude.{IsLength, IsLengthIn, notification_of_view};
+ghost use Rattle.bgp_frame.specs.Prelude.{IsLength, IsLengthIn};
 ghost use Rattle.bgp_frame.specs.declared.kind.Kind.{Kind};
 ghost use Rattle.bgp_numbers.specs.declared.message.TheConstants.{UPDATE};
 ghost use Rattle.bgp_update.specs.Prelude.{parts_of};
-ghost use Rattle.bgp_msg.specs.declared.outcome.Outcome.TheVariants as outcome;
 ghost use Rattle.ristulva_c.specs.Judge.{IsTold, verdict_told};
-ghost use Rattle.ristulva_c.specs.JudgePaths.{IsJudgedBy, as_received, is_identified, outcome_with};
+ghost use Rattle.ristulva_c.specs.JudgePaths.{IsJudgedBy, is_identified};
+ghost use Rattle.bgp_paths.specs.Prelude.{outcome_with};
 ghost use Rattle.ristulva_c.specs.Parts.{parts_told};
 ghost use Rattle.ristulva_c.specs.Paths.{families_in};
 ghost use Rattle.ristulva_c.specs.Prelude.{context_of};
@@ -22,26 +22,13 @@ use crate::parts::parts_in;
 use crate::paths::{families_in, is_update};
 use crate::status::{INCOMPLETE, RANGE};
 use crate::terms::{SessionTerms, plain_terms_in};
-use bgp_frame::{Frame, Kind, NotificationView, Step, WideKind};
-use bgp_msg::{OutcomeView, view_frame};
+use bgp_frame::{Frame, Step, WideKind};
 use bgp_numbers::message;
-use bgp_paths::{PathFamilies, PlainBody, data_received};
+use bgp_paths::{PathFamilies, PlainBody, view_received};
 use bgp_terms::WideTerms;
 use bgp_update::UpdateView;
 use bgp_wide::front_in;
 use bgp_wire::are_octets;
-
-/// A NOTIFICATION for a fault of an UPDATE without path identifiers, with the data as they were received.
-fn as_received<'a>(body: &'a [u8], why: NotificationView<'a>) -> NotificationView<'a>
-    requires { length body.now ≤ 4077 }
-    ensures { outcome.Reset (notification_of_view result) ≡ as_received body.entry.now (outcome.Reset (notification_of_view why.entry)) }
-{
-    NotificationView {
-        code: why.code,
-        subcode: why.subcode,
-        info: data_received(body, why.info),
-    }
-}
 
 /// Writes the outcome of an UPDATE whose routes have path identifiers.
 fn tell_identified(
@@ -56,23 +43,11 @@ fn tell_identified(
     ensures { IsTold (verdict_told UPDATE len (parts_told (parts_of body.now)) (outcome_with (context_of ctx.now) families body.now)) (outcome_with (context_of ctx.now) families body.now)
         (record { status = result; before = out.old; behind = out.new; info_before = info.old; info_behind = info.new }) }
 {
-    are_octets(body);
     let mut plain = PlainBody::new();
     plain.fill(families, body);
-    let frame = Frame {
-        kind: Kind::Update,
-        len,
-        body: plain.as_slice(),
-    };
     let mut view = UpdateView::empty();
-    let parts = parts_in(body);
-    match view_frame(&context_of(ctx), frame, &mut view) {
-        OutcomeView::Reset(why) => {
-            let outcome = OutcomeView::Reset(as_received(body, why));
-            tell(message::UPDATE, len, parts, &outcome, info, out)
-        }
-        outcome => tell(message::UPDATE, len, parts, &outcome, info, out),
-    }
+    let outcome = view_received(&context_of(ctx), body, plain.as_slice(), &mut view);
+    tell(message::UPDATE, len, parts_in(body), &outcome, info, out)
 }
 
 /// Writes the outcome of a whole message by terms, where routes of these families have path identifiers.

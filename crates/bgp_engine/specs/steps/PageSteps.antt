@@ -4,6 +4,8 @@ use Rattle.bgp_engine.specs.Below.{Context, Outcome, is_reset, Span}
 use Rattle.bgp_engine.specs.declared.class.Class.{Class}
 use Rattle.bgp_engine.specs.Explain.{Form, heard_text}
 use Rattle.bgp_engine.specs.Heard.{Heard}
+use Rattle.bgp_engine.specs.Identified.{Showing, shown_body}
+use Rattle.bgp_paths.specs.declared.families.PathFamilies.{PathFamilies}
 use Rattle.bgp_engine.specs.Narrow.{narrowed_class}
 use Rattle.bgp_engine.specs.OnlyFaults.{Chosen}
 use Rattle.bgp_engine.specs.steps.Pages.{is_last}
@@ -12,6 +14,12 @@ use Rattle.bgp_engine.specs.Show.{class_of}
 -- the text of an outcome was added, and it counts as this
 pub record WritesOutcome (shown : ℕ → ℕ → Option Span → Outcome → List ℕ) (old new : List ℕ) (place len : ℕ) (span : Option Span) (o : Outcome) (class : Class) : Type 0 where
   pub told : new ≡ old ++ shown place len span o
+  pub counts : class ≡ class_of o
+  pub ends : is_reset o ≡ is_last class
+
+-- the text of the outcome of an UPDATE whose routes have path identifiers was added, and it counts as this
+pub record WritesIdentified (shown : Showing) (f : PathFamilies) (ctx : Context) (old new : List ℕ) (place len : ℕ) (body : List ℕ) (o : Outcome) (class : Class) : Type 0 where
+  pub told : new ≡ old ++ shown_body shown f ctx place len body o
   pub counts : class ≡ class_of o
   pub ends : is_reset o ≡ is_last class
 

@@ -8,10 +8,10 @@ use Rattle.bgp_engine.specs.declared.fault.NoContext.TheVariants.{NoOpen}
 use Rattle.bgp_engine.specs.declared.opening.Stage.{Stage}
 use Rattle.bgp_engine.specs.declared.starting.Begun.{Begun}
 use Rattle.bgp_engine.specs.declared.starting.Starting as code
-use Rattle.bgp_engine.specs.Agree.{agreed}
+use Rattle.bgp_engine.specs.Agree.{Fit, fitting}
 use Rattle.bgp_engine.specs.File.{first_open, open_in}
 use Rattle.bgp_engine.specs.First.{Start, Starts, ReportedFrom, start_by}
-use Rattle.bgp_engine.specs.Opens.{fit_of, unagreed}
+use Rattle.bgp_engine.specs.Opens.{unagreed}
 use Rattle.bgp_engine.specs.Report.{Report, behind}
 use Rattle.bgp_engine.specs.Refreshed.{Refreshed}
 use Rattle.bgp_engine.specs.Rules.{Rules}
@@ -36,12 +36,12 @@ module _ {Outcome : Type 0} where
   start_of m accepted plan = record { rules = wide_rules accepted plan.rules; first = plan.first m }
 
   -- how a page's stream is read: as the page is, or by what both OPENs agree on, where that is suitable
-  abbrev pub starts_of : {P : Type 0} → (Agreed → Bool) → (P → Rules Outcome) → (P → Option Agreed → Plan Kind Outcome) → Refreshes → Option (List ℕ) → P → Starts WideKind (Outcome ⊎ Refreshed)
+  abbrev pub starts_of : {P : Type 0} → Fit → (P → Rules Outcome) → (P → Option Agreed → Plan Kind Outcome) → Refreshes → Option (List ℕ) → P → Starts WideKind (Outcome ⊎ Refreshed)
   starts_of fits rules plan accepted None page None = Ok (record { rules = wide_rules accepted (rules page); first = None })
   starts_of fits rules plan accepted None page (Some m) = Ok (start_of m accepted (plan page None))
   starts_of fits rules plan accepted (Some theirs) page None = Err NoOpen
   starts_of fits rules plan accepted (Some theirs) page (Some m) =
-      start_by (λ terms. start_of m terms.refresh (plan page (Some terms))) (fit_of fits (agreed (open_in m.kind m.body) (first_open theirs)))
+      start_by (λ terms. start_of m terms.refresh (plan page (Some terms))) (fitting fits (open_in m.kind m.body) (first_open theirs))
 
   -- the page has its terms now, and this ROUTE-REFRESH is accepted; or there are none
   abbrev pub SettlesOn : Result Refreshes NoContext → Result (WideStart Outcome) NoContext → Plan Kind Outcome → Message → Type 0
@@ -55,7 +55,7 @@ module _ {Outcome : Type 0} where
   Begins (Begun.Handed accepted) start rules told_old told_new =
       (text : List ℕ) × (start ≡ Ok (record { rules = wide_rules accepted rules; first = Some text })) × (told_new ≡ told_old ++ text)
 
-  abbrev pub starting_of : {P : Type 0} → (Agreed → Bool) → (P → Rules Outcome) → (P → Option Agreed → Plan Kind Outcome) → code.Starting P → Starting WideKind (Outcome ⊎ Refreshed)
+  abbrev pub starting_of : {P : Type 0} → Fit → (P → Rules Outcome) → (P → Option Agreed → Plan Kind Outcome) → code.Starting P → Starting WideKind (Outcome ⊎ Refreshed)
   starting_of fits rules plan s = record {
     starts = starts_of fits rules plan s.walk.refreshes (option_map (λ t. t.now) s.theirs) s.walk.page;
     stage = s.stage;

@@ -47,6 +47,9 @@ const UNKNOWN: &str =
 const UPDATE: &str =
     "M 0048 02 0000 0031 800e1a 0002 01 10 20010db8000000000000000000000001 00 2020010db8 40010100 40020602010000fdea 40050400000064";
 
+/// Paths 1 of 2001:db8::/32 and 2 of ::/0 are withdrawn.
+const PATHS: &str = "M 002b 02 0000 0014 800f11 0002 01 00000001 20 20010db8 00000002 00";
+
 /// The commands that agree by both OPENs.
 #[derive(Clone, Copy, Debug, PartialEq, Eq)]
 enum Way {
@@ -249,10 +252,43 @@ fn no_open_to_agree_with(rt: HostRuntime) -> Result<(), Fail> {
 
 #[test]
 fn path_identifiers_are_not_read(rt: HostRuntime) -> Result<(), Fail> {
-    for way in WAYS {
+    for way in [Way::Narrow, Way::Clean] {
         assert_no_context(&rt, way, SENDS, READS, NoContext::Paths)?;
     }
     Ok(())
+}
+
+/// What is written of a stream in which paths 1 of 2001:db8::/32 and 2 of ::/0 are withdrawn ends so.
+fn assert_paths(rt: &(impl Abort + AllocGlobal), way: Way, end: &str) -> Result<(), Fail> {
+    let other = input_of(rt.alloc(), Tool::Show, READS)?;
+    let stream = stream_of(rt.alloc(), SENDS, PATHS)?;
+    for step in [1, 4096] {
+        let mut reader = Drip::new(stream.as_slice(), step);
+        let mut sheet = Sheet::new();
+        let outcome = by_opens(rt.alloc(), way, other.as_slice(), &mut reader, &mut sheet);
+        assert!(rt; outcome.is_ok(), "{way:?}");
+        assert!(rt; sheet.text.as_slice().ends_with(end.as_bytes()), "{way:?}");
+    }
+    Ok(())
+}
+
+#[test]
+fn path_identifiers_are_read(rt: HostRuntime) -> Result<(), Fail> {
+    assert_paths(
+        &rt,
+        Way::Show,
+        "32 path 1\n  mp_withdrawn 0000:0000:0000:0000:0000:0000:0000:0000/0 path 2\nend wait 0\n",
+    )?;
+    assert_paths(
+        &rt,
+        Way::Json,
+        "\"withdrawn\":[\"2001:db8::/32\",\"::/0\"],\"withdrawn_paths\":[1,2]},\"others\":[],\"nlri\":[],\"nlri_paths\":[],\"notes\":[]}\n{\"kind\":\"END\",\"end\":\"wait\",\"octets\":0}\n",
+    )?;
+    assert_paths(
+        &rt,
+        Way::Check,
+        "messages 2 took 2 withdraw 0 reset 0\nend wait 0\n",
+    )
 }
 
 /// A reader that fails before the first message is complete is reported, whatever the other direction has.

@@ -6,9 +6,9 @@ use Rattle.bgp_frame.specs.declared.kind.WideKind.{WideKind}
 use Rattle.bgp_open.specs.declared.context.Context.{Context}
 use Rattle.bgp_update.specs.Prelude.{parts_of}
 use Rattle.bgp_paths.specs.declared.families.PathFamilies.{PathFamilies}
+use Rattle.bgp_paths.specs.Prelude.{outcome_with}
 use Rattle.bgp_terms.specs.declared.refreshes.Refreshes.{Refreshes}
 use Rattle.ristulva_c.specs.Judge.{IsTold, Judging, verdict_told}
-use Rattle.ristulva_c.specs.JudgePaths.{outcome_with}
 use Rattle.ristulva_c.specs.Parts.{parts_told}
 use Rattle.ristulva_c.specs.steps.JudgeIn.{FrameAnswers}
 

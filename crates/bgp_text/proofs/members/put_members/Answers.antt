@@ -6,7 +6,7 @@ use Rattle.bgp_text.proofs.members.put_members.Goals as goal
 
 pub returns : goal.returns
 returns g c =
-    let s : Shown = g.F.Form.shown in
+    let s : Shown = g.F.Form.shown c.args.form.now in
     let u : Update = update_value c.args.view.now in
     let e1 : string_bytes c.put_withdrawn.new.text ≡ string_bytes c.args.text.now ++ s.withdrawn (prefixes_left c.withdrawn.result) = c.in_ok-put_withdrawn.ensures in
     let e2 : string_bytes c.put_attributes.new.text ≡ string_bytes c.put_withdrawn.new.text ++ printed_attributes s.attribute (known_value c.kept.result.now) = c.in_ok-put_attributes.ensures in

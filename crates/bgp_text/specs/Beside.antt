@@ -1,0 +1,18 @@
+-- Routes beside their path identifiers (RFC 7911, section 3).
+use Rattle.std.specs.Prelude.{ℕ, List, [], ◌∷◌, ◌++◌, None, Some}
+use Rattle.bgp_paths.specs.Prelude.{PathNumbers}
+use Rattle.bgp_text.specs.declared.beside.Beside.{Beside}
+
+-- each route with the path identifier in its place, where there is one
+abbrev pub beside : {A : Type 0} → List A → List ℕ → List (Beside A)
+beside [] numbers = []
+beside (route ∷ routes) [] = record { route = route; path = None } ∷ beside routes []
+beside (route ∷ routes) (number ∷ numbers) = record { route = route; path = Some number } ∷ beside routes numbers
+
+-- those of the routes that an UPDATE withdraws or announces, in the order of its routes: IPv4
+abbrev pub numbers_ip4 : PathNumbers → List ℕ
+numbers_ip4 ids = (ids.withdrawn ++ ids.unreached4) ++ (ids.reached4 ++ ids.nlri)
+
+-- and IPv6
+abbrev pub numbers_ip6 : PathNumbers → List ℕ
+numbers_ip6 ids = ids.unreached6 ++ ids.reached6
