@@ -32,6 +32,9 @@ CALLS = re.compile(r"[;:] it (calls|passes) ")
 
 # An error because a proof names what the edit took away, as rt's own words have it.
 NAMES = re.compile(r"has no field|is not in scope|has no `|was not admitted")
+
+# What the prover says where it met a limit of its own; a kit from 13f on has this itself.
+LIMITS = re.compile(r"\blimit\b|memory|too deep|ran out|gave up|could not tell|a task ended early")
 ONLY_NAMES = "(only because a proof file names what the edit took away, so this says little of the contract: change a value and keep the names)"
 
 
@@ -186,7 +189,7 @@ def refusals(rt, crate, bodies, lines):
     """What to say of each edit that the check refused, by its name; None where the check says of other functions what these edits can't have caused."""
     said = Said(crate, lines)
     names = {function: printed(function, said.fns) for body in bodies for function in body.functions}
-    if None in names.values() or said.blames_others(names.values()) or said.errs_elsewhere(names.values(), rt.LIMITS):
+    if None in names.values() or said.blames_others(names.values()) or said.errs_elsewhere(names.values(), getattr(rt, "LIMITS", LIMITS)):
         return None
     found = {body.name: refused(body, names, said) for body in bodies}
     return {name: how for name, how in found.items() if how}
@@ -227,7 +230,8 @@ def tried_in_groups(rt, checked, crate, edits, jobs):
     bodies = [it for name, edit in edits.items() for it in [read_body(rt, crate, edit, name)] if it]
     groups, settled, by_module = [bodies] * bool(bodies), {}, set()
     room = tempfile.mkdtemp(prefix=f"rt-edits-{os.getpid()}-")
-    rt.SEEDS.append(room)
+    # (rt removes these where it is ended; kit 13b has no list of them)
+    getattr(rt, "SEEDS", []).append(room)
     try:
         while groups:
             chosen, later = apart(groups.pop(0))
@@ -271,6 +275,8 @@ def only(paths):
 def alone(rt):
     """rt's try of one edit: first at the functions of its files, where the crate is refused if one of these is."""
     check_of, must_fail = rt.checked, rt.must_fail
+    # (kit 13b answers whether the edit is refused)
+    unsure, settled = getattr(rt, "UNSURE", False), getattr(rt, "SETTLED", [True])
 
     def checked(crate, texts, flags, kept):
         ran = check_of(crate, texts, flags, kept)
@@ -280,11 +286,23 @@ def alone(rt):
 
     def tried(crate, edit, flags, kept=None):
         words = only([*(rt.read_edit(edit, crate.folder)[0] or {})])
-        told = must_fail(crate, edit, [*flags, *words], kept) if words else (rt.UNSURE, "")
-        return told if told[0] in rt.SETTLED else must_fail(crate, edit, flags, kept)
+        told = must_fail(crate, edit, [*flags, *words], kept) if words else (unsure, "")
+        return told if told[0] in settled else must_fail(crate, edit, flags, kept)
 
     rt.checked = checked
     return tried
+
+
+def in_one_task(rt):
+    """Has rt try wrong bodies in groups where all of a crate are one task, as with kit 13b."""
+    checked, tried_alone = rt.checked, alone(rt)
+
+    def must_fail_all(crate, edits, flags):
+        named = {os.path.basename(it): it for it in edits}
+        settled = tried_in_groups(rt, checked, crate, named, 1)
+        return [(True, settled[name]) if name in settled else tried_alone(crate, edit, flags) for name, edit in named.items()]
+
+    rt.must_fail_all = must_fail_all
 
 
 def in_groups(rt):
