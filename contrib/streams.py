@@ -198,9 +198,9 @@ class Program:
         """The lines of a message, without the end."""
         return self.run(octets, "explain", *flags).decode().splitlines()[:-1]
 
-    def shown(self, octets, opens):
-        """The lines of a message by both OPENs, without its fields and the end: none where an OPEN isn't accepted."""
-        lines, begin = self.run_by(opens, octets, "show").decode().splitlines()[:-1], f"{len(opens.sender)} "
+    def explained_by(self, octets, opens):
+        """The lines of a message by both OPENs, without the end: none where an OPEN isn't accepted."""
+        lines, begin = self.run_by(opens, octets, "explain").decode().splitlines()[:-1], f"{len(opens.sender)} "
         first = next((n for n, it in enumerate(lines) if it.startswith(begin)), len(lines))
         return [f"0 {it.removeprefix(begin)}" if n == first else it for n, it in enumerate(lines) if n >= first]
 

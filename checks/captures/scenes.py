@@ -286,7 +286,7 @@ def contexts():
           pcap(it.say("A", huge, BEYOND).say("B", notification(3, 1)).packets),
           [f"for {A}'s UPDATE at octet {after + len(huge)}; it is the last that bgp answers or notes", f"of {A} messages are passed over: 1 above 4096 octets"])
     it, after = opened("4504 00010102", "4504 00010101")
-    paths = f"both OPENs agree on path identifiers (RFC 7911) in what {A} sends: its messages are shown without fields"
+    paths = f"both OPENs agree on path identifiers (RFC 7911) in what {A} sends"
     numbered, cut = update(ORIGIN + PATH + HOP, b"\0\0\0\1" + NEW), update(ORIGIN + PATH + HOP, b"\0\0\0\1")
     scene("path identifiers", "both agree on them; 3/10 for an UPDATE with one", pcap(it.say("A", numbered).say("B", notification(3, 10)).packets),
           [f"for {A}'s UPDATE at octet {after}; it is the last UPDATE before that", paths, "it is accepted by bgp: theirs 3/10, ours none"])

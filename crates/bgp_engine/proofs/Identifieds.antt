@@ -7,6 +7,7 @@ use Rattle.bgp_paths.specs.Prelude.{PathNumbers, as_received, numbers_in, outcom
 use Rattle.bgp_update.specs.Prelude.{parts_of}
 use Rattle.bgp_engine.specs.declared.class.Class.{Class}
 use Rattle.bgp_engine.specs.Identified.{Showing, received_at, used_numbers}
+use Rattle.bgp_engine.specs.Explain.{fault_between, identified_fault}
 use Rattle.bgp_engine.specs.Show.{class_of}
 use Rattle.bgp_engine.specs.steps.PageSteps.{WritesIdentified}
 
@@ -28,3 +29,13 @@ writes_identified shown f ctx old new place len body bare ids received o class i
       counts = counts ∙ ap class_of same;
       ends = sym (ap is_reset same) ∙ (ends_as o ∙ ap is_last (sym counts));
     }
+
+-- why it is answered by a reset
+pub fault_same : (ctx : Context) (f : PathFamilies) (body bare plain : List ℕ) (received : ℕ → ℕ) (o : Outcome)
+    → plain ≡ bare → bare ≡ plain_body f body → ((at : ℕ) → received at ≡ place_between (parts_of bare) (parts_of body) at)
+    → o ≡ as_received body (out_of ctx (record { kind = kinds.Update; body = bare }))
+    → fault_between ctx f body plain received o ≡ identified_fault ctx f body (outcome_with ctx f body)
+fault_same ctx f body bare plain received o read is places comes =
+    let same : o ≡ outcome_with ctx f body = comes ∙ ap (λ (b : List ℕ). as_received body (out_of ctx (record { kind = kinds.Update; body = b }))) is in
+    let at_place : received ≡ received_at f body = λ i at. (places at ∙ ap (λ (b : List ℕ). place_between (parts_of b) (parts_of body) at) is) i in
+    λ i. fault_between ctx f body ((read ∙ is) i) (at_place i) (same i)

@@ -1,5 +1,5 @@
 -- Steps of an engine that handles the first message of its stream by a separate rule.
-use Rattle.bgp_engine.proofs.Prelude.{◌≡◌, ℕ, ◌+◌, ◌-◌, ◌≤◌, Bool, true, false, Bor, ◌⊎◌, List, [], ◌++◌, length, take, drop, Option, option_map, Some, None, Result}
+use Rattle.bgp_engine.proofs.Prelude.{◌≡◌, ℕ, ◌+◌, ◌≤◌, Bool, true, false, Bor, ◌⊎◌, List, [], ◌++◌, length, take, drop, Option, option_map, Some, None, Result}
 use Rattle.bgp_engine.proofs.Prelude.{Ok, Err, refl, sym, ap, subst, ◌∙◌, append_assoc, arith, inl, inr, take-append-drop, drop-append_seam, AreTypes}
 use Rattle.bgp_engine.proofs.Prelude.{is_some, OnErr, append-nil, length-append, take_all, AreOctets, AreOctets-nil, has_octet, AreOctets-append}
 use Rattle.bgp_engine.proofs.Prelude.{AreOctets-back, AreOctets-front, AreOctets-drop, End, HeadFault, Message, octets_of, IsFrame, Waits, head_of}

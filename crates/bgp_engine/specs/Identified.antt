@@ -1,7 +1,7 @@
 -- Messages whose routes may have path identifiers (RFC 7911): an UPDATE is judged without them, and printed with them beside its routes.
 use Rattle.std.specs.Prelude.{ℕ, Bool, true, false, ◌&&◌, ◌||◌, List, [], Option, None, Some, Result, Ok, Err, if◌then◌else◌}
 use Rattle.bgp_engine.specs.Below.{Agreed, Context, HeadFault, Kind, Message, Outcome, Span, StreamRules, is_reset, of_fault, out_of}
-use Rattle.bgp_update.specs.Prelude.{Parts, parts_of}
+use Rattle.bgp_update.specs.Prelude.{parts_of}
 use Rattle.bgp_paths.specs.declared.families.PathFamilies.{PathFamilies}
 use Rattle.bgp_paths.specs.Prelude.{PathNumbers, numbers_in, outcome_with, path_families, place_between, plain_body}
 use Rattle.bgp_engine.specs.Heard.{Heard, place_in}

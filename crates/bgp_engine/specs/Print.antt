@@ -1,7 +1,7 @@
 -- What is printed of a stream, in each style.
 use Rattle.bgp_engine.specs.Below.{Agreed, Bool, true, false, List, Context, ℕ, end_line, end_json, outcome_json, refresh_json, refresh_line}
 use Rattle.bgp_engine.specs.declared.printing.Style.{Style}
-use Rattle.bgp_engine.specs.Agree.{Fit, any_plain, any_terms}
+use Rattle.bgp_engine.specs.Agree.{any_terms}
 use Rattle.bgp_engine.specs.Explain.{Explained, ExplainedUnder, in_json, in_lines}
 use Rattle.bgp_engine.specs.Heard.{Heard}
 use Rattle.bgp_engine.specs.Identified.{where_faulty}
@@ -41,7 +41,7 @@ Printed Style.Json true = λ ctx. IsReport (faulty_json ctx) 0 no_tally
 Printed Style.Explained only_faults = Explained in_lines (chosen only_faults)
 Printed Style.ExplainedJson only_faults = Explained in_json (chosen only_faults)
 
--- the same where ROUTE-REFRESH may be agreed on, and path identifiers where no fields are printed
+-- the same where ROUTE-REFRESH and path identifiers may be agreed on
 abbrev pub PrintedUnder : Style → Bool → Agreed → Reports
 PrintedUnder Style.Lines false = ShownUnder
 PrintedUnder Style.Lines true = λ terms. IsReport (wide_rules terms.refresh (faulty_path_lines terms)) 0 no_tally
@@ -50,13 +50,6 @@ PrintedUnder Style.Json true = λ terms. IsReport (wide_rules terms.refresh (fau
 PrintedUnder Style.Explained only_faults = ExplainedUnder in_lines (chosen only_faults)
 PrintedUnder Style.ExplainedJson only_faults = ExplainedUnder in_json (chosen only_faults)
 
--- fields are printed of messages without path identifiers alone
-abbrev pub fit_in : Style → Fit
-fit_in Style.Lines = any_terms
-fit_in Style.Json = any_terms
-fit_in Style.Explained = any_plain
-fit_in Style.ExplainedJson = any_plain
-
 -- by what both OPENs agree on
 abbrev pub PrintedBy : Style → Bool → List ℕ → Reports
-PrintedBy style only_faults theirs = ReportedBy (fit_in style) theirs (PrintedUnder style only_faults)
+PrintedBy style only_faults theirs = ReportedBy any_terms theirs (PrintedUnder style only_faults)

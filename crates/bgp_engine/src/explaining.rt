@@ -3,13 +3,16 @@
 ghost use Rattle.std.specs.Prelude.{◌≡◌, ◌+◌, ◌≤◌, ◌++◌, [], Ok, Err, length, IfOk, OnOk, if◌then◌else◌};
 ghost use Rattle.bgp_engine.specs.Below.{string_bytes, octets_of, IsLength, message_in, refresh_header};
 ghost use Rattle.bgp_engine.specs.Below.{of_fault, out_of, outcome_value};
-ghost use Rattle.bgp_engine.specs.steps.PageSteps.{WritesHeard};
-ghost use Rattle.bgp_engine.specs.Explain.{heard_text};
+ghost use Rattle.bgp_engine.specs.steps.PageSteps.{WritesHeard, WritesIdentified};
+ghost use Rattle.bgp_engine.specs.Explain.{heard_text, identified_fault, where_chosen};
+ghost use Rattle.bgp_frame.specs.declared.kind.Kind.{Kind};
+ghost use Rattle.bgp_paths.specs.Prelude.{outcome_with, path_numbers, shifted};
 
 use crate::class::{Class, class_of};
 use crate::fault::ToolFault;
 use crate::field_form::FieldForm;
-use crate::heard::fault_of;
+use crate::heard::{fault_of, identified_fault};
+use crate::identified::{is_identified, used_runs};
 use crate::only_faults::Choice;
 use crate::page::Page;
 use crate::refreshing::view_of;
@@ -18,8 +21,10 @@ use bgp_fields::{Fault, header_fault};
 use bgp_frame::{Frame, HeadFault, Notification, head};
 use bgp_msg::{OutcomeView, view_frame};
 use bgp_open::Context;
+use bgp_paths::{PathFamilies, PathShifts, PlainBody, path_runs, view_received};
 use bgp_refresh::{RefreshView, refresh_header};
 use bgp_terms::WideTerms;
+use bgp_text::Identified;
 use bgp_update::UpdateView;
 use std::alloc::{AllocError, Global};
 
@@ -28,6 +33,10 @@ use std::alloc::{AllocError, Global};
 pub(crate) struct ExplainPage<F, C> {
     alloc: Global,
     ctx: Context,
+    /// Whose routes have path identifiers.
+    families: PathFamilies,
+    /// The body of an UPDATE without them.
+    plain: PlainBody,
     form: F,
     text: String,
     /// The octets of a message.
@@ -36,14 +45,23 @@ pub(crate) struct ExplainPage<F, C> {
 }
 
 impl<F: FieldForm, C: Choice> ExplainPage<F, C> {
-    /// Nothing so far.
-    pub(crate) fn new(alloc: Global, ctx: Context, form: F, choice: C) -> ExplainPage<F, C>
+    /// Nothing so far, of messages whose routes of these families have path identifiers.
+    pub(crate) fn new(
+        alloc: Global,
+        ctx: Context,
+        families: PathFamilies,
+        form: F,
+        choice: C,
+    ) -> ExplainPage<F, C>
         ensures context { result.ctx ≡ ctx }
+        ensures families { result.families ≡ families }
         ensures empty { string_bytes result.text ≡ [] }
     {
         ExplainPage {
             alloc,
             ctx,
+            families,
+            plain: PlainBody::new(),
             form,
             text: String::new(alloc),
             octets: Vec::new(alloc),
@@ -85,6 +103,7 @@ impl<F: FieldForm, C: Choice> ExplainPage<F, C> {
         ensures lines { OnOk result (string_bytes self.new.text ≡ string_bytes self.old.text
             ++ (if C.printed.outcome (outcome_value outcome.now) then F.form.message self.old.ctx place len self.old.octets.items fault (outcome_value outcome.now) else [])) }
         ensures context { self.new.ctx ≡ self.old.ctx }
+        ensures families { self.new.families ≡ self.old.families }
     {
         if !self.choice.prints(outcome) {
             return Ok(());
@@ -107,6 +126,7 @@ impl<F: FieldForm, C: Choice> ExplainPage<F, C> {
         ensures writes { IfOk result (λ class. WritesHeard F.form C.printed self.old.ctx (string_bytes self.old.text) (string_bytes self.new.text) place frame.entry.len
             (octets_of (message_in frame.entry)) (record { front = Ok (message_in frame.entry); outcome = out_of self.old.ctx (message_in frame.entry) }) class) }
         ensures context { self.new.ctx ≡ self.old.ctx }
+        ensures families { self.new.families ≡ self.old.families }
     {
         put_octets(frame, &mut self.octets)?;
         let ctx = self.ctx;
@@ -123,6 +143,7 @@ impl<F: FieldForm, C: Choice> ExplainPage<F, C> {
         ensures lines { OnOk result (string_bytes self.new.text ≡ string_bytes self.old.text
             ++ heard_text F.form C.printed self.old.ctx place 0 header.now (record { front = Err fault; outcome = of_fault fault })) }
         ensures context { self.new.ctx ≡ self.old.ctx }
+        ensures families { self.new.families ≡ self.old.families }
     {
         self.octets.clear();
         self.octets.extend_from_slice(header)?;
@@ -132,32 +153,94 @@ impl<F: FieldForm, C: Choice> ExplainPage<F, C> {
     }
 }
 
+/// Adds the text of an UPDATE of this length whose routes have path identifiers, where it is printed.
+fn put_chosen<F: FieldForm, C: Choice>(
+    form: &F,
+    choice: &C,
+    alloc: Global,
+    ctx: &Context,
+    text: &mut String,
+    place: u64,
+    len: u16,
+    update: &Identified<'_>,
+    outcome: &OutcomeView<'_>,
+) -> Result<(), AllocError>
+    requires { length update.now.octets.now ≤ 4096 }
+    ensures { OnOk result (string_bytes text.new ≡ string_bytes text.old
+        ++ where_chosen C.printed (F.form.identified ctx.now update.now.families update.now.octets.now update.now.fault) (path_numbers update.now.runs) (shifted update.now.shifts) place len (outcome_value outcome.now)) }
+{
+    if !choice.prints(outcome) {
+        return Ok(());
+    }
+    form.put_identified(alloc, text, ctx, place, len, update, outcome)
+}
+
+/// Adds the text of an UPDATE whose routes have path identifiers, where it is printed.
+fn put_identified<F: FieldForm, C: Choice>(
+    form: &F,
+    choice: &C,
+    alloc: Global,
+    ctx: &Context,
+    families: PathFamilies,
+    plain: &mut PlainBody,
+    octets: &[u8],
+    text: &mut String,
+    place: u64,
+    frame: Frame<'_>,
+) -> Result<Class, AllocError>
+    requires length { IsLength Kind.Update (19 + length frame.body.now) }
+    requires short { length octets.now ≤ 4096 }
+    ensures { IfOk result (λ class. WritesIdentified (where_chosen C.printed (F.form.identified ctx.now families octets.now (identified_fault ctx.now families frame.entry.body.now (outcome_with ctx.now families frame.entry.body.now)))) families ctx.now (string_bytes text.old) (string_bytes text.new)
+        place frame.entry.len frame.entry.body.now (outcome_with ctx.now families frame.entry.body.now) class) }
+{
+    let body = frame.body;
+    plain.fill(families, body);
+    let runs = used_runs(ctx.ip4, path_runs(families, body));
+    let shifts = PathShifts::between(plain.as_slice(), body);
+    let mut view = UpdateView::empty();
+    let outcome = view_received(ctx, body, plain.as_slice(), &mut view);
+    let fault = identified_fault(ctx, families, body, plain.as_slice(), &shifts, &outcome);
+    let update = Identified {
+        octets,
+        families,
+        runs,
+        shifts,
+        fault,
+    };
+    put_chosen(
+        form, choice, alloc, ctx, text, place, frame.len, &update, &outcome,
+    )?;
+    Ok(class_of(&outcome))
+}
+
 impl<F: FieldForm, C: Choice> Page for ExplainPage<F, C> {
-    ghost use Rattle.bgp_engine.specs.Agree.{any_plain};
+    ghost use Rattle.bgp_engine.specs.Agree.{any_terms};
     ghost use Rattle.std.specs.Prelude.{refl};
     ghost use Rattle.bgp_engine.specs.Below.{true, string_bytes};
-    ghost use Rattle.bgp_engine.specs.Explain.{explained_rules};
+    ghost use Rattle.bgp_engine.specs.Explain.{explained_path_rules};
     ghost use Rattle.bgp_engine.specs.Heard.{Heard};
+    ghost use Rattle.bgp_engine.specs.Identified.{families_or};
     ghost use Rattle.bgp_engine.specs.steps.Pages.{context_or, plain};
 
     ghost Outcome = { Heard };
 
-    ghost rules = { λ page. explained_rules F.form C.printed page.ctx };
+    ghost rules = { λ page. explained_path_rules F.form C.printed page.families page.ctx };
 
     ghost told = { λ page. string_bytes page.text };
 
-    ghost fits = { any_plain };
+    ghost fits = { any_terms };
 
-    ghost plan = { λ page terms. plain (explained_rules F.form C.printed (context_or page.ctx terms)) };
+    ghost plan = { λ page terms. plain (explained_path_rules F.form C.printed (families_or page.families terms) (context_or page.ctx terms)) };
 
     ghost plainly = { λ _. refl };
 
     fn reads_paths(&self) -> bool {
-        false
+        true
     }
 
     fn agree(&mut self, terms: &WideTerms) -> bool {
         self.ctx = terms.context;
+        self.families = PathFamilies::of(terms);
         true
     }
 
@@ -166,7 +249,22 @@ impl<F: FieldForm, C: Choice> Page for ExplainPage<F, C> {
     }
 
     fn message(&mut self, place: u64, frame: Frame<'_>) -> Result<Class, AllocError> {
-        self.put_frame(place, frame)
+        if !is_identified(self.families, frame.kind) {
+            return self.put_frame(place, frame);
+        }
+        put_octets(frame, &mut self.octets)?;
+        put_identified(
+            &self.form,
+            &self.choice,
+            self.alloc,
+            &self.ctx,
+            self.families,
+            &mut self.plain,
+            self.octets.as_slice(),
+            &mut self.text,
+            place,
+            frame,
+        )
     }
 
     fn fault(&mut self, place: u64, header: &[u8], fault: HeadFault) -> Result<(), AllocError> {

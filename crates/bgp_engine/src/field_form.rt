@@ -10,8 +10,8 @@ use bgp_msg::OutcomeView;
 use bgp_open::Context;
 use bgp_refresh::RefreshView;
 use bgp_text::{
-    put_end, put_end_json, put_explained, put_explained_json, put_explained_refresh,
-    put_explained_refresh_json,
+    Identified, put_end, put_end_json, put_explained, put_explained_json, put_explained_refresh,
+    put_explained_refresh_json, put_path_explained, put_path_explained_json,
 };
 use std::alloc::{AllocError, Global};
 
@@ -20,6 +20,7 @@ pub(crate) trait FieldForm {
     ghost use Rattle.std.specs.Prelude.{◌≡◌, ◌≤◌, ◌++◌, length, OnOk};
     ghost use Rattle.bgp_engine.specs.Below.{string_bytes, outcome_value, refresh_value};
     ghost use Rattle.bgp_engine.specs.Explain.{Form};
+    ghost use Rattle.bgp_paths.specs.Prelude.{path_numbers, shifted};
 
     /// Their texts.
     ghost form: { Form };
@@ -38,6 +39,21 @@ pub(crate) trait FieldForm {
     ) -> Result<(), AllocError>
         requires { length octets.now ≤ 4096 }
         ensures { OnOk result (string_bytes text.new ≡ string_bytes text.old ++ form.message ctx.now place len octets.now fault (outcome_value outcome.now)) };
+
+    /// Adds the text of an UPDATE of this length whose routes have path identifiers.
+    fn put_identified(
+        &self,
+        alloc: Global,
+        text: &mut String,
+        ctx: &Context,
+        place: u64,
+        len: u16,
+        update: &Identified<'_>,
+        outcome: &OutcomeView<'_>,
+    ) -> Result<(), AllocError>
+        requires { length update.now.octets.now ≤ 4096 }
+        ensures { OnOk result (string_bytes text.new ≡ string_bytes text.old
+            ++ form.identified ctx.now update.now.families update.now.octets.now update.now.fault (path_numbers update.now.runs) (shifted update.now.shifts) place len (outcome_value outcome.now)) };
 
     /// Adds the text of a ROUTE-REFRESH that is accepted, which has these octets.
     fn put_refresh(
@@ -77,6 +93,19 @@ impl FieldForm for Lines {
         put_explained(alloc, text, ctx, place, len, octets, fault, outcome)
     }
 
+    fn put_identified(
+        &self,
+        alloc: Global,
+        text: &mut String,
+        ctx: &Context,
+        place: u64,
+        len: u16,
+        update: &Identified<'_>,
+        outcome: &OutcomeView<'_>,
+    ) -> Result<(), AllocError> {
+        put_path_explained(alloc, text, ctx, place, len, update, outcome)
+    }
+
     fn put_refresh(
         &self,
         _alloc: Global,
@@ -112,6 +141,19 @@ impl FieldForm for Json {
         outcome: &OutcomeView<'_>,
     ) -> Result<(), AllocError> {
         put_explained_json(alloc, text, ctx, place, len, octets, fault, outcome)
+    }
+
+    fn put_identified(
+        &self,
+        alloc: Global,
+        text: &mut String,
+        ctx: &Context,
+        place: u64,
+        len: u16,
+        update: &Identified<'_>,
+        outcome: &OutcomeView<'_>,
+    ) -> Result<(), AllocError> {
+        put_path_explained_json(alloc, text, ctx, place, len, update, outcome)
     }
 
     fn put_refresh(

@@ -1,6 +1,6 @@
 //! What is printed of a stream, in each style.
 
-ghost use Rattle.bgp_engine.specs.Agree.{any_plain};
+ghost use Rattle.bgp_engine.specs.Agree.{any_terms};
 ghost use Rattle.bgp_engine.specs.Prelude.{Printed, PrintedBy, PrintedUnder, ReportedBy, Answers, io};
 ghost use Rattle.bgp_engine.specs.Below.{wide_terms};
 ghost use Rattle.bgp_paths.specs.Prelude.{path_families};
@@ -54,10 +54,10 @@ fn explain_within<F: FieldForm + Drop, R: Read, W: Write>(
     ensures { Answers (Explained F.form (chosen only_faults) ctx.now) hex (io R.remaining input.old input.new W.contents output.old output.new) result }
 {
     if only_faults {
-        let page = ExplainPage::new(alloc, *ctx, form, Faulty);
+        let page = ExplainPage::new(alloc, *ctx, no_paths(), form, Faulty);
         return walk_stream(turns, hex, page, input, output);
     }
-    let page = ExplainPage::new(alloc, *ctx, form, Every);
+    let page = ExplainPage::new(alloc, *ctx, no_paths(), form, Every);
     walk_stream(turns, hex, page, input, output)
 }
 
@@ -72,13 +72,13 @@ fn explain_by_opens<F: FieldForm + Drop, R: Read, W: Write>(
     input: &mut R,
     output: &mut W,
 ) -> Result<Tally, ToolFault>
-    ensures { Answers (ReportedBy any_plain theirs.now (ExplainedUnder F.form (chosen only_faults))) hex (io R.remaining input.old input.new W.contents output.old output.new) result }
+    ensures { Answers (ReportedBy any_terms theirs.now (ExplainedUnder F.form (chosen only_faults))) hex (io R.remaining input.old input.new W.contents output.old output.new) result }
 {
     if only_faults {
-        let page = ExplainPage::new(alloc, UNKNOWN, form, Faulty);
+        let page = ExplainPage::new(alloc, UNKNOWN, no_paths(), form, Faulty);
         return open_stream(alloc, turns, theirs, hex, page, input, output);
     }
-    let page = ExplainPage::new(alloc, UNKNOWN, form, Every);
+    let page = ExplainPage::new(alloc, UNKNOWN, no_paths(), form, Every);
     open_stream(alloc, turns, theirs, hex, page, input, output)
 }
 
@@ -149,11 +149,12 @@ fn explain_under<F: FieldForm + Drop, R: Read, W: Write>(
 ) -> Result<Tally, ToolFault>
     ensures { Answers (ExplainedUnder F.form (chosen only_faults) (wide_terms terms.now)) hex (io R.remaining input.old input.new W.contents output.old output.new) result }
 {
+    let families = PathFamilies::of(terms);
     if only_faults {
-        let page = ExplainPage::new(alloc, terms.context, form, Faulty);
+        let page = ExplainPage::new(alloc, terms.context, families, form, Faulty);
         return walk_under(u32::MAX, hex, page, terms.refresh, input, output);
     }
-    let page = ExplainPage::new(alloc, terms.context, form, Every);
+    let page = ExplainPage::new(alloc, terms.context, families, form, Every);
     walk_under(u32::MAX, hex, page, terms.refresh, input, output)
 }
 
@@ -173,7 +174,7 @@ fn show_under<F: Form + Drop, R: Read, W: Write>(
 }
 
 /// [`print`] by what was negotiated: a ROUTE-REFRESH is a message where the reader offers it (RFC 2918; RFC 7313); routes have path identifiers where the
-/// terms say so (RFC 7911), but where fields are printed, for which these terms aren't meant. What else is agreed on beyond the context has no effect.
+/// terms say so (RFC 7911). What else is agreed on beyond the context has no effect.
 ///
 /// # Errors
 /// As `print`.

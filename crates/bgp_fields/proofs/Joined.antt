@@ -1,8 +1,8 @@
 -- The fields of a message, joined, are the message.
-use Rattle.bgp_fields.proofs.Prelude.{◌≡◌, ℕ, ◌+◌, List, [], ◌∷◌, ◌++◌, length, take, drop, Option, None, refl, sym, ap, ◌∙◌, arith, flat_map}
-use Rattle.bgp_fields.proofs.Prelude.{take-append-drop, drop_all, flat_map-cons, drop-drop, Context, Field, Group, Unread, MessagePart, SectionPart}
-use Rattle.bgp_fields.proofs.Prelude.{ValuePart, no_fields, value_fields, section_fields, message_fields, fields_of, refresh_fields, Tiles, octets_in, AreTheOctets}
-use Rattle.bgp_fields.proofs.Prelude.{value_plan, section_plan, message_plan}
+use Rattle.bgp_fields.proofs.Prelude.{◌≡◌, ℕ, ◌+◌, List, [], ◌∷◌, ◌++◌, length, take, drop, Option, None, Some, refl, sym, ap, ◌∙◌, arith, flat_map}
+use Rattle.bgp_fields.proofs.Prelude.{take-append-drop, drop_all, flat_map-cons, drop-drop, Context, PathFamilies, Reading, Field, Group, Unread, MessagePart, SectionPart}
+use Rattle.bgp_fields.proofs.Prelude.{ValuePart, no_fields, value_fields_in, section_fields_in, message_fields_in, fields_of, path_fields, plain_reading, refresh_fields, Tiles, octets_in, AreTheOctets}
+use Rattle.bgp_fields.proofs.Prelude.{value_plan_in, section_plan_in, message_plan_in}
 use Rattle.bgp_fields.proofs.Tilings.{Tiles-to, walk-tiles}
 
 -- fields from an offset on, up to the end, are the octets from there on
@@ -19,25 +19,28 @@ none-tiles : (none : Unit {0}) (at : ℕ) (group : Option Group) (b : List ℕ) 
 none-tiles none at group [] = omega arith
 none-tiles none at group (x ∷ b) = (refl, omega arith, refl)
 
-value-tiles : (ctx : Context) (part : ValuePart) (at : ℕ) (group : Option Group) (b : List ℕ) → Tiles at (at + length b) (value_fields ctx part at group b)
-value-tiles ctx = walk-tiles (Unit {0}) ValuePart (ValuePart.All Unread) (value_plan ctx) no_fields none-tiles
+value-tiles : (r : Reading) (part : ValuePart) (at : ℕ) (group : Option Group) (b : List ℕ) → Tiles at (at + length b) (value_fields_in r part at group b)
+value-tiles r = walk-tiles (Unit {0}) ValuePart (ValuePart.All Unread) (value_plan_in r) no_fields none-tiles
 
-section-tiles : (ctx : Context) (part : SectionPart) (at : ℕ) (group : Option Group) (b : List ℕ)
-    → Tiles at (at + length b) (section_fields ctx part at group b)
-section-tiles ctx = walk-tiles ValuePart SectionPart (SectionPart.All Unread) (section_plan ctx) (value_fields ctx) (value-tiles ctx)
+section-tiles : (r : Reading) (part : SectionPart) (at : ℕ) (group : Option Group) (b : List ℕ)
+    → Tiles at (at + length b) (section_fields_in r part at group b)
+section-tiles r = walk-tiles ValuePart SectionPart (SectionPart.All Unread) (section_plan_in r) (value_fields_in r) (value-tiles r)
 
-message-tiles : (ctx : Context) (part : MessagePart) (at : ℕ) (group : Option Group) (b : List ℕ)
-    → Tiles at (at + length b) (message_fields ctx part at group b)
-message-tiles ctx = walk-tiles SectionPart MessagePart (MessagePart.All Unread) message_plan (section_fields ctx) (section-tiles ctx)
+message-tiles : (r : Reading) (part : MessagePart) (at : ℕ) (group : Option Group) (b : List ℕ)
+    → Tiles at (at + length b) (message_fields_in r part at group b)
+message-tiles r = walk-tiles SectionPart MessagePart (MessagePart.All Unread) (message_plan_in r.paths) (section_fields_in r) (section-tiles r)
 
-fields-from : (ctx : Context) (part : MessagePart) (octets : List ℕ) → AreTheOctets octets (message_fields ctx part 0 None octets)
-fields-from ctx part octets =
-    let fields = message_fields ctx part 0 None octets in
-    let tiles : Tiles 0 (length octets) fields = Tiles-to 0 (0 + length octets) (length octets) fields (omega arith) (message-tiles ctx part 0 None octets) in
+fields-from : (r : Reading) (part : MessagePart) (octets : List ℕ) → AreTheOctets octets (message_fields_in r part 0 None octets)
+fields-from r part octets =
+    let fields = message_fields_in r part 0 None octets in
+    let tiles : Tiles 0 (length octets) fields = Tiles-to 0 (0 + length octets) (length octets) fields (omega arith) (message-tiles r part 0 None octets) in
     record { placed = tiles; joined = joined octets 0 fields tiles }
 
 pub fields-octets : (ctx : Context) (octets : List ℕ) → AreTheOctets octets (fields_of ctx octets)
-fields-octets ctx = fields-from ctx MessagePart.Marker
+fields-octets ctx = fields-from (plain_reading ctx) MessagePart.Marker
 
 pub refresh-octets : (ctx : Context) (octets : List ℕ) → AreTheOctets octets (refresh_fields ctx octets)
-refresh-octets ctx = fields-from ctx MessagePart.RefreshMarker
+refresh-octets ctx = fields-from (plain_reading ctx) MessagePart.RefreshMarker
+
+pub path-octets : (ctx : Context) (families : PathFamilies) (octets : List ℕ) → AreTheOctets octets (path_fields ctx families octets)
+path-octets ctx families = fields-from (record { ctx = ctx; paths = Some families }) MessagePart.Marker

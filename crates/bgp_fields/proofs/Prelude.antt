@@ -58,7 +58,7 @@ pub use Rattle.bgp_update.proofs.Verdicts.{IsTaken, taken-of, withdrawn-of}
 pub use Rattle.bgp_msg.specs.Prelude.{is_reset, of_body, of_reading, of_verdict, out_of}
 pub use Rattle.bgp_msg.specs.declared.message.Message.{Message}
 pub use Rattle.bgp_msg.specs.declared.outcome.Outcome.{Outcome}
-pub use Rattle.bgp_fields.specs.Prelude.{AllRead, ArePlaced, AreTheOctets, HasPlace, IsHead, Plan, ShowsRoutes, ShowsWithdrawal, Telling, Tiles, afi_len, alone, asking_place, asks_for, attribute_extent, attribute_len, attribute_place, attribute_value, attribute_values, bad_prefix, behind, behind_family, behind_number, body_part, body_place, capability_behind, capability_place, capability_value, fields_left, fields_of, first_asking, first_of, first_other, fit, group_from, head_fields, header_place, hop_behind, is_nlri_prefix, is_reach_prefix4, is_reach_prefix6, is_unreach_prefix4, is_unreach_prefix6, is_unread, is_withdrawn_prefix, item_extent, leaf, length_place, listed, lone_field, message_at, message_fields, message_plan, message_planned, no_fields, note_place, note_place_in, nothing_in_section, nothing_inside, numbers_behind, octets_in, one, open_place, opening, parameter_place, parameters_place, parts_place, prefix_alone, prefix_in, prefix_len, prefix_width, prefixes_shown, refresh_fields, refresh_rest, refresh_row, reset_place, run_place, says_missing, section_at, section_fields, section_plan, section_planned, span, told, two_of, update_place, value_fields, value_plan, value_planned, walk_within, width_of}
+pub use Rattle.bgp_fields.specs.Prelude.{AllRead, ArePlaced, AreTheOctets, HasPlace, IsHead, Plan, ShowsRoutes, ShowsWithdrawal, Telling, Tiles, afi_len, alone, are_identified, asking_place, asks_for, attribute_extent, attribute_len, attribute_place, attribute_value, attribute_values, bad_prefix, behind, behind_family, behind_number, body_part, body_place, capability_behind, capability_place, capability_value, fields_left, fields_of, first_asking, first_of, first_other, fit, group_from, head_fields, header_place, hop_behind, is_nlri_prefix, is_reach_prefix4, is_reach_prefix6, is_unreach_prefix4, is_unreach_prefix6, is_unread, is_withdrawn_prefix, item_extent, leaf, length_place, listed, lone_field, message_at, message_fields, message_fields_in, message_plan, message_plan_in, message_planned, nlri_plan, no_fields, note_place, note_place_in, nothing_in_section, nothing_inside, numbers_behind, octets_in, one, open_place, opening, parameter_place, parameters_place, parts_place, path_fields, plain_reading, prefix_alone, prefix_in, prefix_len, prefix_width, prefixes_shown, refresh_fields, refresh_rest, refresh_row, reset_place, routes_plan, run_place, says_missing, section_at, section_fields, section_fields_in, section_plan, section_plan_in, section_planned, span, told, two_of, update_place, value_fields, value_fields_in, value_plan, value_plan_in, value_planned, walk_within, width_of, withdrawn_plan}
 unfoldable pub use Rattle.bgp_fields.specs.Prelude.{walk}
 pub use Rattle.bgp_fields.specs.declared.field.Field.{Field}
 pub use Rattle.bgp_fields.specs.declared.field.Group.{Group}
@@ -67,3 +67,5 @@ pub use Rattle.bgp_fields.specs.declared.kind.FieldKind.TheVariants.{AttributeFl
 pub use Rattle.bgp_fields.specs.declared.part.MessagePart.{MessagePart}
 pub use Rattle.bgp_fields.specs.declared.part.SectionPart.{SectionPart}
 pub use Rattle.bgp_fields.specs.declared.part.ValuePart.{ValuePart}
+pub use Rattle.bgp_fields.specs.declared.reading.Reading.{Reading}
+pub use Rattle.bgp_paths.specs.declared.families.PathFamilies.{PathFamilies}

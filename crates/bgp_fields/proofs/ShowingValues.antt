@@ -16,6 +16,7 @@ abbrev pub is_plain : ValuePart → Bool
 is_plain (ValuePart.One kind n) = not (is_prefix kind)
 is_plain (ValuePart.Row kind n) = not (is_prefix kind)
 is_plain (ValuePart.Prefixes kind ip6) = false
+is_plain (ValuePart.PathPrefix kind ip6) = false
 is_plain (ValuePart.Aggregator wide) = true
 is_plain (ValuePart.Segment wide confederations) = true
 is_plain (ValuePart.SegmentCount wide confederations) = true
@@ -50,6 +51,7 @@ plan-plain : (ctx : Context) (part : ValuePart) (b : List ℕ) → is_plain part
 plan-plain ctx (ValuePart.One kind n) b e = (not-true _ e, refl)
 plan-plain ctx (ValuePart.Row kind n) b e = (not-true _ e, e)
 plan-plain ctx (ValuePart.Prefixes kind ip6) b e = absurd (let no : false ≡ true = e in cc)
+plan-plain ctx (ValuePart.PathPrefix kind ip6) b e = absurd (let no : false ≡ true = e in cc)
 plan-plain ctx (ValuePart.Aggregator wide) b e = (refl, refl)
 plan-plain ctx (ValuePart.Segment wide confederations) b e = (refl, refl)
 plan-plain ctx (ValuePart.SegmentCount wide confederations) b e =

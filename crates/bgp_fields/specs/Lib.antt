@@ -7,5 +7,6 @@ pub mod Laws
 pub mod Shown
 pub mod Places
 pub mod Causes
+pub mod PathPlaces
 pub mod Prelude
 pub mod steps

@@ -1,4 +1,4 @@
--- The next field of a message (RFC 4271, section 4; RFC 2918, 4760, 5492, 6793, 7313 and 8092): a row for each part.
+-- The next field of a message (RFC 4271, section 4; RFC 2918, 4760, 5492, 6793, 7313, 7911 and 8092): a row for each part.
 use Rattle.std.specs.Prelude.{ℕ, ◌+◌, ◌-◌, ◌*◌, Bool, true, false, ◌||◌, ◌&&◌, ◌==◌, nat_le, nat_lt, List, [], ◌∷◌, length, slice_index, Option, None, Some, if◌then◌else◌}
 use Rattle.std.specs.Int.{w16, from_be_bytes}
 use Rattle.bgp_numbers.specs.declared.attribute.TheConstants.{ORIGIN, AS_PATH, NEXT_HOP, MULTI_EXIT_DISC, LOCAL_PREF, ATOMIC_AGGREGATE, AGGREGATOR, COMMUNITIES, MP_REACH_NLRI, MP_UNREACH_NLRI, AS4_PATH, AS4_AGGREGATOR, LARGE_COMMUNITY}
@@ -12,10 +12,12 @@ use Rattle.bgp_frame.specs.Prelude.{kind_of}
 use Rattle.bgp_open.specs.declared.context.Context.{Context}
 use Rattle.bgp_prefix.specs.Prelude.{octets_for}
 use Rattle.bgp_attr.specs.Prelude.{number_width, is_extended, length_width, entry_of}
+use Rattle.bgp_paths.specs.declared.families.PathFamilies.{PathFamilies}
 use Rattle.bgp_fields.specs.declared.kind.FieldKind.{FieldKind}
 use Rattle.bgp_fields.specs.declared.part.MessagePart.{MessagePart}
 use Rattle.bgp_fields.specs.declared.part.SectionPart.{SectionPart}
 use Rattle.bgp_fields.specs.declared.part.ValuePart.{ValuePart}
+use Rattle.bgp_fields.specs.declared.reading.Reading.{Reading}
 use Rattle.bgp_fields.specs.Walk.{Plan}
 
 -- ---- words of the tables
@@ -45,6 +47,17 @@ opening none kind code next = record { kind = kind; len = 1; begins = Some code;
 -- a length field of n octets, the octets inside, and what follows
 abbrev pub behind : {I S : Type 0} → FieldKind → ℕ → I → ℕ → S → Plan I S
 behind kind n inner inner_len next = record { kind = kind; len = n; begins = None; inner = inner; inner_len = inner_len; next = next }
+
+-- ---- path identifiers (RFC 7911)
+
+-- a context in which no routes have them
+abbrev pub plain_reading : Context → Reading
+plain_reading ctx = record { ctx = ctx; paths = None }
+
+-- the routes of IPv6 have them, or those of IPv4
+abbrev pub are_identified : Option PathFamilies → Bool → Bool
+are_identified None ip6 = false
+are_identified (Some families) ip6 = if ip6 then families.ip6 else families.ip4
 
 -- ---- values of attributes and parameters
 
@@ -126,31 +139,42 @@ one kind n next = leaf tt kind n next
 abbrev pub hop_plan : Bool → ℕ → Plan (Unit {0}) ValuePart
 hop_plan ip6 n = if n == 32 then one FieldKind.NextHop 16 ValuePart.LinkLocal else one FieldKind.NextHop n (ValuePart.Reserved ip6)
 
+-- the next field of routes: a path identifier, where they have some, else a prefix of this length in bits, a field of this kind
+abbrev pub routes_plan : Option PathFamilies → FieldKind → Bool → ℕ → Plan (Unit {0}) ValuePart
+routes_plan paths kind ip6 bits =
+    if are_identified paths ip6 then one FieldKind.PathIdentifier 4 (ValuePart.PathPrefix kind ip6) else
+    one kind (prefix_len (width_of ip6) bits) (ValuePart.Prefixes kind ip6)
+
 -- the next field of the value of an attribute or of a parameter
-abbrev pub value_plan : Context → ValuePart → List ℕ → Plan (Unit {0}) ValuePart
-value_plan ctx (ValuePart.One kind n) b = one kind n (ValuePart.All FieldKind.Unread)
-value_plan ctx (ValuePart.Row kind n) b = one kind n (ValuePart.Row kind n)
-value_plan ctx (ValuePart.Prefixes kind ip6) b = one kind (prefix_len (width_of ip6) (first_of b)) (ValuePart.Prefixes kind ip6)
-value_plan ctx (ValuePart.Aggregator wide) b = one FieldKind.AsNumber (number_width wide) (ValuePart.One FieldKind.Address 4)
-value_plan ctx (ValuePart.Segment wide confederations) b =
+abbrev pub value_plan_in : Reading → ValuePart → List ℕ → Plan (Unit {0}) ValuePart
+value_plan_in r (ValuePart.One kind n) b = one kind n (ValuePart.All FieldKind.Unread)
+value_plan_in r (ValuePart.Row kind n) b = one kind n (ValuePart.Row kind n)
+value_plan_in r (ValuePart.Prefixes kind ip6) b = routes_plan r.paths kind ip6 (first_of b)
+value_plan_in r (ValuePart.PathPrefix kind ip6) b = one kind (prefix_len (width_of ip6) (first_of b)) (ValuePart.Prefixes kind ip6)
+value_plan_in r (ValuePart.Aggregator wide) b = one FieldKind.AsNumber (number_width wide) (ValuePart.One FieldKind.Address 4)
+value_plan_in r (ValuePart.Segment wide confederations) b =
     one FieldKind.SegmentType (if is_segment confederations (first_of b) then 1 else 0) (ValuePart.SegmentCount wide confederations)
-value_plan ctx (ValuePart.SegmentCount wide confederations) b =
+value_plan_in r (ValuePart.SegmentCount wide confederations) b =
     one FieldKind.SegmentCount 1 (numbers_behind wide confederations (first_of b) (length b))
-value_plan ctx (ValuePart.Numbers wide confederations left) b =
+value_plan_in r (ValuePart.Numbers wide confederations left) b =
     one FieldKind.AsNumber (number_width wide) (behind_number wide confederations left)
-value_plan ctx (ValuePart.Afi reach) b = one FieldKind.Afi 2 (ValuePart.Safi reach (two_of b))
-value_plan ctx (ValuePart.Safi reach afi) b = one FieldKind.Safi 1 (behind_family ctx reach afi (first_of b))
-value_plan ctx (ValuePart.NextHopLength ip6) b = one FieldKind.NextHopLength 1 (hop_behind ip6 (first_of b))
-value_plan ctx (ValuePart.NextHop ip6 n) b = hop_plan ip6 n
-value_plan ctx ValuePart.LinkLocal b = one FieldKind.LinkLocal 16 (ValuePart.Reserved true)
-value_plan ctx (ValuePart.Reserved ip6) b = one FieldKind.Reserved 1 (reach_prefixes ip6)
-value_plan ctx ValuePart.CapabilityCode b = opening tt FieldKind.CapabilityCode (first_of b) (ValuePart.CapabilityLength (first_of b))
-value_plan ctx (ValuePart.CapabilityLength code) b = one FieldKind.CapabilityLength 1 (capability_behind code (first_of b) (length b))
-value_plan ctx (ValuePart.Capability kind n) b = one kind n ValuePart.CapabilityCode
-value_plan ctx ValuePart.CapabilityAfi b = one FieldKind.Afi 2 ValuePart.CapabilityReserved
-value_plan ctx ValuePart.CapabilityReserved b = one FieldKind.Reserved 1 ValuePart.CapabilitySafi
-value_plan ctx ValuePart.CapabilitySafi b = one FieldKind.Safi 1 ValuePart.CapabilityCode
-value_plan ctx (ValuePart.All kind) b = one kind (length b) (ValuePart.All FieldKind.Unread)
+value_plan_in r (ValuePart.Afi reach) b = one FieldKind.Afi 2 (ValuePart.Safi reach (two_of b))
+value_plan_in r (ValuePart.Safi reach afi) b = one FieldKind.Safi 1 (behind_family r.ctx reach afi (first_of b))
+value_plan_in r (ValuePart.NextHopLength ip6) b = one FieldKind.NextHopLength 1 (hop_behind ip6 (first_of b))
+value_plan_in r (ValuePart.NextHop ip6 n) b = hop_plan ip6 n
+value_plan_in r ValuePart.LinkLocal b = one FieldKind.LinkLocal 16 (ValuePart.Reserved true)
+value_plan_in r (ValuePart.Reserved ip6) b = one FieldKind.Reserved 1 (reach_prefixes ip6)
+value_plan_in r ValuePart.CapabilityCode b = opening tt FieldKind.CapabilityCode (first_of b) (ValuePart.CapabilityLength (first_of b))
+value_plan_in r (ValuePart.CapabilityLength code) b = one FieldKind.CapabilityLength 1 (capability_behind code (first_of b) (length b))
+value_plan_in r (ValuePart.Capability kind n) b = one kind n ValuePart.CapabilityCode
+value_plan_in r ValuePart.CapabilityAfi b = one FieldKind.Afi 2 ValuePart.CapabilityReserved
+value_plan_in r ValuePart.CapabilityReserved b = one FieldKind.Reserved 1 ValuePart.CapabilitySafi
+value_plan_in r ValuePart.CapabilitySafi b = one FieldKind.Safi 1 ValuePart.CapabilityCode
+value_plan_in r (ValuePart.All kind) b = one kind (length b) (ValuePart.All FieldKind.Unread)
+
+-- the same without path identifiers
+abbrev pub value_plan : Context → ValuePart → List ℕ → Plan (Unit {0}) ValuePart
+value_plan ctx = value_plan_in (plain_reading ctx)
 
 -- ---- Withdrawn Routes, Path Attributes and Optional Parameters
 
@@ -166,17 +190,28 @@ attribute_len flags b = if is_extended flags then two_of b else first_of b
 abbrev pub nothing_inside : ValuePart
 nothing_inside = ValuePart.All FieldKind.Unread
 
+-- the next field of Withdrawn Routes: a path identifier, where the routes have some, else a prefix of this length in bits
+abbrev pub withdrawn_plan : Option PathFamilies → ℕ → Plan ValuePart SectionPart
+withdrawn_plan paths bits =
+    if are_identified paths false then leaf nothing_inside FieldKind.PathIdentifier 4 SectionPart.WithdrawnPrefix else
+    leaf nothing_inside FieldKind.WithdrawnPrefix (prefix_len 4 bits) SectionPart.Withdrawn
+
 -- the next field of a section
-abbrev pub section_plan : Context → SectionPart → List ℕ → Plan ValuePart SectionPart
-section_plan ctx SectionPart.Withdrawn b = leaf nothing_inside FieldKind.WithdrawnPrefix (prefix_len 4 (first_of b)) SectionPart.Withdrawn
-section_plan ctx SectionPart.ParameterType b = opening nothing_inside FieldKind.ParameterType (first_of b) (SectionPart.ParameterLength (first_of b))
-section_plan ctx (SectionPart.ParameterLength code) b =
+abbrev pub section_plan_in : Reading → SectionPart → List ℕ → Plan ValuePart SectionPart
+section_plan_in r SectionPart.Withdrawn b = withdrawn_plan r.paths (first_of b)
+section_plan_in r SectionPart.WithdrawnPrefix b = leaf nothing_inside FieldKind.WithdrawnPrefix (prefix_len 4 (first_of b)) SectionPart.Withdrawn
+section_plan_in r SectionPart.ParameterType b = opening nothing_inside FieldKind.ParameterType (first_of b) (SectionPart.ParameterLength (first_of b))
+section_plan_in r (SectionPart.ParameterLength code) b =
     behind FieldKind.ParameterLength 1 (parameter_value code) (first_of b) SectionPart.ParameterType
-section_plan ctx SectionPart.AttributeFlags b = opening nothing_inside FieldKind.AttributeFlags (second_of b) (SectionPart.AttributeType (first_of b))
-section_plan ctx (SectionPart.AttributeType flags) b = leaf nothing_inside FieldKind.AttributeType 1 (SectionPart.AttributeLength flags (first_of b))
-section_plan ctx (SectionPart.AttributeLength flags code) b =
-    behind FieldKind.AttributeLength (length_width flags) (attribute_value ctx code) (attribute_len flags b) SectionPart.AttributeFlags
-section_plan ctx (SectionPart.All kind) b = leaf nothing_inside kind (length b) (SectionPart.All FieldKind.Unread)
+section_plan_in r SectionPart.AttributeFlags b = opening nothing_inside FieldKind.AttributeFlags (second_of b) (SectionPart.AttributeType (first_of b))
+section_plan_in r (SectionPart.AttributeType flags) b = leaf nothing_inside FieldKind.AttributeType 1 (SectionPart.AttributeLength flags (first_of b))
+section_plan_in r (SectionPart.AttributeLength flags code) b =
+    behind FieldKind.AttributeLength (length_width flags) (attribute_value r.ctx code) (attribute_len flags b) SectionPart.AttributeFlags
+section_plan_in r (SectionPart.All kind) b = leaf nothing_inside kind (length b) (SectionPart.All FieldKind.Unread)
+
+-- the same without path identifiers
+abbrev pub section_plan : Context → SectionPart → List ℕ → Plan ValuePart SectionPart
+section_plan ctx = section_plan_in (plain_reading ctx)
 
 -- ---- messages
 
@@ -198,25 +233,36 @@ alone kind n next = leaf nothing_in_section kind n next
 abbrev pub afi_len : List ℕ → ℕ
 afi_len b = if nat_lt (length b) 4 then 0 else 2
 
+-- the next field of NLRI: a path identifier, where its routes have some, else a prefix of this length in bits
+abbrev pub nlri_plan : Option PathFamilies → ℕ → Plan SectionPart MessagePart
+nlri_plan paths bits =
+    if are_identified paths false then alone FieldKind.PathIdentifier 4 MessagePart.NlriPrefix else
+    alone FieldKind.NlriPrefix (prefix_len 4 bits) MessagePart.Nlri
+
 -- the next field of a message
+abbrev pub message_plan_in : Option PathFamilies → MessagePart → List ℕ → Plan SectionPart MessagePart
+message_plan_in paths MessagePart.Marker b = alone FieldKind.Marker 16 MessagePart.Length
+message_plan_in paths MessagePart.Length b = alone FieldKind.MessageLength 2 MessagePart.Kind
+message_plan_in paths MessagePart.Kind b = alone FieldKind.MessageType 1 (body_part (kind_of (first_of b)))
+message_plan_in paths MessagePart.Version b = alone FieldKind.Version 1 MessagePart.MyAs
+message_plan_in paths MessagePart.MyAs b = alone FieldKind.MyAs 2 MessagePart.HoldTime
+message_plan_in paths MessagePart.HoldTime b = alone FieldKind.HoldTime 2 MessagePart.Identifier
+message_plan_in paths MessagePart.Identifier b = alone FieldKind.Identifier 4 MessagePart.ParametersLength
+message_plan_in paths MessagePart.ParametersLength b = behind FieldKind.ParametersLength 1 SectionPart.ParameterType (first_of b) (MessagePart.All FieldKind.Unread)
+message_plan_in paths MessagePart.WithdrawnLength b = behind FieldKind.WithdrawnLength 2 SectionPart.Withdrawn (two_of b) MessagePart.AttributesLength
+message_plan_in paths MessagePart.AttributesLength b = behind FieldKind.AttributesLength 2 SectionPart.AttributeFlags (two_of b) MessagePart.Nlri
+message_plan_in paths MessagePart.Nlri b = nlri_plan paths (first_of b)
+message_plan_in paths MessagePart.NlriPrefix b = alone FieldKind.NlriPrefix (prefix_len 4 (first_of b)) MessagePart.Nlri
+message_plan_in paths MessagePart.ErrorCode b = alone FieldKind.ErrorCode 1 MessagePart.ErrorSubcode
+message_plan_in paths MessagePart.ErrorSubcode b = alone FieldKind.ErrorSubcode 1 (MessagePart.All FieldKind.Data)
+message_plan_in paths MessagePart.RefreshMarker b = alone FieldKind.Marker 16 MessagePart.RefreshLength
+message_plan_in paths MessagePart.RefreshLength b = alone FieldKind.MessageLength 2 MessagePart.RefreshType
+message_plan_in paths MessagePart.RefreshType b = alone FieldKind.MessageType 1 MessagePart.RefreshAfi
+message_plan_in paths MessagePart.RefreshAfi b = alone FieldKind.Afi (afi_len b) MessagePart.RefreshSubtype
+message_plan_in paths MessagePart.RefreshSubtype b = alone FieldKind.Subtype 1 MessagePart.RefreshSafi
+message_plan_in paths MessagePart.RefreshSafi b = alone FieldKind.Safi 1 (MessagePart.All FieldKind.Unread)
+message_plan_in paths (MessagePart.All kind) b = alone kind (length b) (MessagePart.All FieldKind.Unread)
+
+-- the same without path identifiers
 abbrev pub message_plan : MessagePart → List ℕ → Plan SectionPart MessagePart
-message_plan MessagePart.Marker b = alone FieldKind.Marker 16 MessagePart.Length
-message_plan MessagePart.Length b = alone FieldKind.MessageLength 2 MessagePart.Kind
-message_plan MessagePart.Kind b = alone FieldKind.MessageType 1 (body_part (kind_of (first_of b)))
-message_plan MessagePart.Version b = alone FieldKind.Version 1 MessagePart.MyAs
-message_plan MessagePart.MyAs b = alone FieldKind.MyAs 2 MessagePart.HoldTime
-message_plan MessagePart.HoldTime b = alone FieldKind.HoldTime 2 MessagePart.Identifier
-message_plan MessagePart.Identifier b = alone FieldKind.Identifier 4 MessagePart.ParametersLength
-message_plan MessagePart.ParametersLength b = behind FieldKind.ParametersLength 1 SectionPart.ParameterType (first_of b) (MessagePart.All FieldKind.Unread)
-message_plan MessagePart.WithdrawnLength b = behind FieldKind.WithdrawnLength 2 SectionPart.Withdrawn (two_of b) MessagePart.AttributesLength
-message_plan MessagePart.AttributesLength b = behind FieldKind.AttributesLength 2 SectionPart.AttributeFlags (two_of b) MessagePart.Nlri
-message_plan MessagePart.Nlri b = alone FieldKind.NlriPrefix (prefix_len 4 (first_of b)) MessagePart.Nlri
-message_plan MessagePart.ErrorCode b = alone FieldKind.ErrorCode 1 MessagePart.ErrorSubcode
-message_plan MessagePart.ErrorSubcode b = alone FieldKind.ErrorSubcode 1 (MessagePart.All FieldKind.Data)
-message_plan MessagePart.RefreshMarker b = alone FieldKind.Marker 16 MessagePart.RefreshLength
-message_plan MessagePart.RefreshLength b = alone FieldKind.MessageLength 2 MessagePart.RefreshType
-message_plan MessagePart.RefreshType b = alone FieldKind.MessageType 1 MessagePart.RefreshAfi
-message_plan MessagePart.RefreshAfi b = alone FieldKind.Afi (afi_len b) MessagePart.RefreshSubtype
-message_plan MessagePart.RefreshSubtype b = alone FieldKind.Subtype 1 MessagePart.RefreshSafi
-message_plan MessagePart.RefreshSafi b = alone FieldKind.Safi 1 (MessagePart.All FieldKind.Unread)
-message_plan (MessagePart.All kind) b = alone kind (length b) (MessagePart.All FieldKind.Unread)
+message_plan = message_plan_in None

@@ -84,7 +84,7 @@ fn asked_cause(ctx: &Context, subcode: u8, sections: &Sections<'_>) -> Cause
 }
 
 /// For the body of an UPDATE, by the subcode of the NOTIFICATION.
-fn update_cause(ctx: &Context, subcode: u8, body: &[u8]) -> Cause
+pub(crate) fn update_cause(ctx: &Context, subcode: u8, body: &[u8]) -> Cause
     requires { length body.now ≤ 4077 }
     ensures { result ≡ update_cause ctx.now subcode (parts_of body.now) }
 {

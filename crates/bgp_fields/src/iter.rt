@@ -7,15 +7,17 @@ use crate::field::{Field, Group};
 use crate::kind::FieldKind;
 use crate::message_plan::message_plan;
 use crate::part::{MessagePart, SectionPart, ValuePart};
+use crate::reading::Reading;
 use crate::section_plan::section_plan;
 use crate::value_plan::value_plan;
 use bgp_open::Context;
+use bgp_paths::PathFamilies;
 use std::iter::FusedIterator;
 
 /// The fields of a message in their order: every octet is in exactly one of them, whatever the message. It allocates nothing.
 #[derive(Clone, Copy)]
 pub struct FieldIter<'a> {
-    pub(crate) ctx: Context,
+    pub(crate) reading: Reading,
     /// The offset of the first octet that is left.
     pub(crate) at: usize,
     /// What is left of the value that was begun.
@@ -34,17 +36,17 @@ pub struct FieldIter<'a> {
 
 impl<'a> FieldIter<'a> {
     ghost use Rattle.std.specs.Prelude.{None};
-    ghost use Rattle.bgp_fields.specs.Fields.{fields_of, message_fields, refresh_fields};
+    ghost use Rattle.bgp_fields.specs.Fields.{fields_of, message_fields_in, path_fields, refresh_fields};
     ghost use Rattle.bgp_fields.specs.FieldIter.{fields_left};
 
     /// The fields of octets from a part of a message on.
     #[tactic(auto, unfolding(crate::specs::Walk::walk))]
-    fn begin(ctx: &Context, part: MessagePart, octets: &'a [u8]) -> FieldIter<'a>
+    fn begin(reading: Reading, part: MessagePart, octets: &'a [u8]) -> FieldIter<'a>
         requires { length octets.now ≤ 4096 }
-        ensures { fields_left result ≡ message_fields ctx.now part 0 None octets.now }
+        ensures { fields_left result ≡ message_fields_in reading part 0 None octets.now }
     {
         FieldIter {
-            ctx: *ctx,
+            reading,
             at: 0,
             value: ValuePart::All(FieldKind::Unread),
             value_group: None,
@@ -63,7 +65,7 @@ impl<'a> FieldIter<'a> {
         requires { length octets.now ≤ 4096 }
         ensures { fields_left result ≡ fields_of ctx.now octets.now }
     {
-        FieldIter::begin(ctx, MessagePart::Marker, octets)
+        FieldIter::begin(Reading::plain(ctx), MessagePart::Marker, octets)
     }
 
     /// The fields of a whole ROUTE-REFRESH that is accepted: those of the header, AFI, Message Subtype and SAFI (RFC 2918, section 3; RFC 7313, section
@@ -72,7 +74,20 @@ impl<'a> FieldIter<'a> {
         requires { length octets.now ≤ 4096 }
         ensures { fields_left result ≡ refresh_fields ctx.now octets.now }
     {
-        FieldIter::begin(ctx, MessagePart::RefreshMarker, octets)
+        FieldIter::begin(Reading::plain(ctx), MessagePart::RefreshMarker, octets)
+    }
+
+    /// The fields of a whole message in a context where the routes of these families have path identifiers: as [`FieldIter::new`], but that each of
+    /// these has its path identifier as a field before its prefix (RFC 7911, section 3).
+    pub fn with_paths(ctx: &Context, families: PathFamilies, octets: &'a [u8]) -> FieldIter<'a>
+        requires { length octets.now ≤ 4096 }
+        ensures { fields_left result ≡ path_fields ctx.now families octets.now }
+    {
+        let reading = Reading {
+            ctx: *ctx,
+            paths: Some(families),
+        };
+        FieldIter::begin(reading, MessagePart::Marker, octets)
     }
 
     /// The next field of the value that was begun.
@@ -81,7 +96,7 @@ impl<'a> FieldIter<'a> {
         ensures { fields_left self.old ≡ result ∷ fields_left self.new }
     {
         let left = self.value_octets;
-        let plan = value_plan(&self.ctx, self.value, left).fit(left.len());
+        let plan = value_plan(&self.reading, self.value, left).fit(left.len());
         let at = self.at;
         let (_, rest) = left.split_at(plan.len);
         self.at = at + plan.len;
@@ -98,7 +113,7 @@ impl<'a> FieldIter<'a> {
         ensures { fields_left self.old ≡ result ∷ fields_left self.new }
     {
         let left = self.section_octets;
-        let plan = section_plan(&self.ctx, self.section, left).fit(left.len());
+        let plan = section_plan(&self.reading, self.section, left).fit(left.len());
         let at = self.at;
         let (_, behind) = left.split_at(plan.len);
         let (inside, rest) = behind.split_at(plan.inner_len);
@@ -121,7 +136,7 @@ impl<'a> FieldIter<'a> {
         ensures { fields_left self.old ≡ result ∷ fields_left self.new }
     {
         let left = self.message_octets;
-        let plan = message_plan(self.message, left).fit(left.len());
+        let plan = message_plan(self.reading.paths, self.message, left).fit(left.len());
         let at = self.at;
         let (_, behind) = left.split_at(plan.len);
         let (inside, rest) = behind.split_at(plan.inner_len);

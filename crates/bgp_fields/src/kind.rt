@@ -83,6 +83,8 @@ pub enum FieldKind {
     ReachPrefix6,
     /// An IPv4 prefix of Network Layer Reachability Information: 1 to 5 octets.
     NlriPrefix,
+    /// The path identifier before a prefix: four octets (RFC 7911, section 3).
+    PathIdentifier,
     /// A NOTIFICATION's error code: one octet (RFC 4271, section 4.5).
     ErrorCode,
     /// A NOTIFICATION's error subcode: one octet.

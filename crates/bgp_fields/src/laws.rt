@@ -7,6 +7,7 @@ ghost use Rattle.bgp_frame.specs.Prelude.{IsFrame, head_of};
 ghost use Rattle.bgp_frame.specs.declared.fault.HeadFault.{HeadFault};
 ghost use Rattle.bgp_frame.specs.declared.notification.Notification.{Notification};
 ghost use Rattle.bgp_open.specs.declared.context.Context.{Context};
+ghost use Rattle.bgp_paths.specs.declared.families.PathFamilies.{PathFamilies};
 ghost use Rattle.bgp_update.specs.declared.note.Note.{Note};
 ghost use Rattle.bgp_update.specs.declared.routes.Routes.{Routes};
 ghost use Rattle.bgp_update.specs.declared.update.Update.{Update};
@@ -14,12 +15,17 @@ ghost use Rattle.bgp_msg.specs.declared.message.Message.{Message};
 ghost use Rattle.bgp_msg.specs.declared.outcome.Outcome.TheVariants.{Reset, Took, Withdraw};
 ghost use Rattle.bgp_msg.specs.Prelude.{out_of};
 ghost use Rattle.bgp_msg.specs.declared.message.Message.TheVariants as message;
-ghost use Rattle.bgp_fields.specs.Prelude.{fields_of, AllRead, AreTheOctets, ArePlaced, HasPlace, header_place, refresh_fields, refresh_rest, refresh_row, reset_place, ShowsRoutes, ShowsWithdrawal};
+ghost use Rattle.bgp_fields.specs.Prelude.{fields_of, AllRead, AreTheOctets, ArePlaced, HasPlace, header_place, path_fields, refresh_fields, refresh_rest, refresh_row, reset_place, ShowsRoutes, ShowsWithdrawal};
 
 /// The fields of a message are its octets, whatever they are: each field begins where the one before it ends and has at least one octet; none is
 /// returned twice and none left out.
 pub fn the_fields_are_the_message()
     ensures { (ctx : Context) (octets : List ℕ) → AreTheOctets octets (fields_of ctx octets) }
+{}
+
+/// So are those of a message whose routes have path identifiers (RFC 7911).
+pub fn the_fields_with_path_identifiers_are_the_message()
+    ensures { (ctx : Context) (families : PathFamilies) (octets : List ℕ) → AreTheOctets octets (path_fields ctx families octets) }
 {}
 
 /// The fields of a ROUTE-REFRESH that is accepted are its octets in the same way.

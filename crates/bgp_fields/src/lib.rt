@@ -13,8 +13,10 @@ mod message_plan;
 mod octets;
 mod open_place;
 mod part;
+mod path_place;
 mod place;
 mod plan;
+mod reading;
 mod rests;
 mod section_plan;
 mod sections;
@@ -25,6 +27,7 @@ pub use field::{Fault, Field, Group, Span};
 pub use iter::FieldIter;
 pub use kind::FieldKind;
 pub use listing::Listed;
+pub use path_place::path_fault;
 pub use place::{header_span, message_span, note_span, reset_span};
 
 #[cfg(test)]

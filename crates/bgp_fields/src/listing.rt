@@ -4,7 +4,7 @@ ghost use Rattle.std.specs.Prelude.{◌≡◌, ◌≤◌, ◌<◌, ◌+◌, ◌+
 ghost use Rattle.bgp_fields.specs.declared.part.SectionPart.TheVariants as section;
 ghost use Rattle.bgp_fields.specs.declared.part.ValuePart.TheVariants as value;
 ghost use Rattle.bgp_fields.specs.FieldIter.{fields_left};
-ghost use Rattle.bgp_fields.specs.Fields.{value_fields, section_fields, message_fields};
+ghost use Rattle.bgp_fields.specs.Fields.{value_fields_in, section_fields_in, message_fields_in};
 ghost use Rattle.bgp_fields.specs.steps.Heads.{head_fields};
 ghost use Rattle.bgp_fields.specs.steps.Listing.{listed};
 
@@ -14,9 +14,9 @@ use crate::iter::{FieldIter, field, group_from};
 use crate::kind::FieldKind;
 use crate::message_plan::message_plan;
 use crate::part::{MessagePart, SectionPart, ValuePart};
+use crate::reading::Reading;
 use crate::section_plan::{attribute_value, section_plan};
 use crate::value_plan::value_plan;
-use bgp_open::Context;
 
 /// The type of the entries of a list of fields.
 pub trait Listed: Copy {
@@ -32,7 +32,7 @@ pub trait Listed: Copy {
 
 /// Lists the fields of a value after the first `count` entries. Returns the number of entries used.
 fn list_value<T: Listed>(
-    ctx: &Context,
+    reading: &Reading,
     part: ValuePart,
     at: usize,
     group: Option<Group>,
@@ -42,9 +42,9 @@ fn list_value<T: Listed>(
 ) -> usize
     requires few { count ≤ at }
     requires short { at + length octets.now ≤ 4096 }
-    requires room { count + length (value_fields ctx.now part at group octets.now) ≤ length list.old }
-    ensures list { list.new ≡ listed count (map T.told (value_fields ctx.now part at group octets.now)) list.old }
-    ensures count { result ≡ count + length (value_fields ctx.now part at group octets.now) }
+    requires room { count + length (value_fields_in reading.now part at group octets.now) ≤ length list.old }
+    ensures list { list.new ≡ listed count (map T.told (value_fields_in reading.now part at group octets.now)) list.old }
+    ensures count { result ≡ count + length (value_fields_in reading.now part at group octets.now) }
     // Each field has at least one octet.
     ensures few { result ≤ at + length octets.now }
 {
@@ -54,7 +54,7 @@ fn list_value<T: Listed>(
     let mut left = octets;
     let mut taken = count;
     'value: while !left.is_empty() {
-        let plan = value_plan(ctx, next, left).fit(left.len());
+        let plan = value_plan(reading, next, left).fit(left.len());
         let (_, rest) = left.split_at(plan.len);
         holder = group_from(place, plan.begins, holder);
         list[taken] = T::of(field(place, plan.len, plan.kind, holder));
@@ -68,7 +68,7 @@ fn list_value<T: Listed>(
 
 /// Lists the fields of a value where those like the first follow one another. Returns the number of entries used.
 fn list_row<T: Listed>(
-    ctx: &Context,
+    reading: &Reading,
     part: ValuePart,
     first: Field,
     octets: &[u8],
@@ -79,9 +79,9 @@ fn list_row<T: Listed>(
     requires some { 0 < first.len }
     requires few { count ≤ first.at }
     requires short { first.at + length octets.now ≤ 4096 }
-    requires room { count + length (value_fields ctx.now part first.at first.group octets.now) ≤ length list.old }
-    ensures list { list.new ≡ listed count (map T.told (value_fields ctx.now part first.at first.group octets.now)) list.old }
-    ensures count { result ≡ count + length (value_fields ctx.now part first.at first.group octets.now) }
+    requires room { count + length (value_fields_in reading.now part first.at first.group octets.now) ≤ length list.old }
+    ensures list { list.new ≡ listed count (map T.told (value_fields_in reading.now part first.at first.group octets.now)) list.old }
+    ensures count { result ≡ count + length (value_fields_in reading.now part first.at first.group octets.now) }
     ensures few { result ≤ first.at + length octets.now }
 {
     let width = usize::from(first.len);
@@ -95,13 +95,21 @@ fn list_row<T: Listed>(
         at += first.len;
         left = rest;
     }
-    list_value(ctx, part, usize::from(at), first.group, left, list, taken)
+    list_value(
+        reading,
+        part,
+        usize::from(at),
+        first.group,
+        left,
+        list,
+        taken,
+    )
 }
 
 /// Lists the fields inside an attribute or a parameter after the first `count` entries. Returns the number of entries used.
 #[inline(always)]
 fn list_inside<T: Listed>(
-    ctx: &Context,
+    reading: &Reading,
     part: ValuePart,
     at: usize,
     group: Option<Group>,
@@ -111,9 +119,9 @@ fn list_inside<T: Listed>(
 ) -> usize
     requires few { count ≤ at }
     requires short { at + length octets.now ≤ 4096 }
-    requires room { count + length (value_fields ctx.now part at group octets.now) ≤ length list.old }
-    ensures list { list.new ≡ listed count (map T.told (value_fields ctx.now part at group octets.now)) list.old }
-    ensures count { result ≡ count + length (value_fields ctx.now part at group octets.now) }
+    requires room { count + length (value_fields_in reading.now part at group octets.now) ≤ length list.old }
+    ensures list { list.new ≡ listed count (map T.told (value_fields_in reading.now part at group octets.now)) list.old }
+    ensures count { result ≡ count + length (value_fields_in reading.now part at group octets.now) }
     ensures few { result ≤ at + length octets.now }
 {
     if octets.is_empty() {
@@ -122,15 +130,15 @@ fn list_inside<T: Listed>(
     match part {
         ValuePart::Row(kind, width) if width > 0 => {
             let first = field(at, usize::from(width), kind, group);
-            list_row(ctx, part, first, octets, list, count)
+            list_row(reading, part, first, octets, list, count)
         }
-        _ => list_value(ctx, part, at, group, octets, list, count),
+        _ => list_value(reading, part, at, group, octets, list, count),
     }
 }
 
 /// Lists the fields of a section, one by one, after the first `count` entries. Returns the number of entries used.
 fn list_any_section<T: Listed>(
-    ctx: &Context,
+    reading: &Reading,
     part: SectionPart,
     at: usize,
     group: Option<Group>,
@@ -140,9 +148,9 @@ fn list_any_section<T: Listed>(
 ) -> usize
     requires few { count ≤ at }
     requires short { at + length octets.now ≤ 4096 }
-    requires room { count + length (section_fields ctx.now part at group octets.now) ≤ length list.old }
-    ensures list { list.new ≡ listed count (map T.told (section_fields ctx.now part at group octets.now)) list.old }
-    ensures count { result ≡ count + length (section_fields ctx.now part at group octets.now) }
+    requires room { count + length (section_fields_in reading.now part at group octets.now) ≤ length list.old }
+    ensures list { list.new ≡ listed count (map T.told (section_fields_in reading.now part at group octets.now)) list.old }
+    ensures count { result ≡ count + length (section_fields_in reading.now part at group octets.now) }
     // Each field has at least one octet.
     ensures few { result ≤ at + length octets.now }
 {
@@ -152,13 +160,13 @@ fn list_any_section<T: Listed>(
     let mut left = octets;
     let mut taken = count;
     'section: while !left.is_empty() {
-        let plan = section_plan(ctx, next, left).fit(left.len());
+        let plan = section_plan(reading, next, left).fit(left.len());
         let (_, behind) = left.split_at(plan.len);
         let (inside, rest) = behind.split_at(plan.inner_len);
         holder = group_from(place, plan.begins, holder);
         list[taken] = T::of(field(place, plan.len, plan.kind, holder));
         place += plan.len;
-        taken = list_inside(ctx, plan.inner, place, holder, inside, list, taken + 1);
+        taken = list_inside(reading, plan.inner, place, holder, inside, list, taken + 1);
         place += plan.inner_len;
         next = plan.next;
         left = rest;
@@ -182,7 +190,7 @@ fn list_head<T: Listed>(at: usize, head: &Head<'_>, list: &mut [T], count: usize
 
 /// Lists the fields of path attributes after the first `count` entries. Returns the number of entries used.
 fn list_attributes<T: Listed>(
-    ctx: &Context,
+    reading: &Reading,
     at: usize,
     group: Option<Group>,
     octets: &[u8],
@@ -191,9 +199,9 @@ fn list_attributes<T: Listed>(
 ) -> usize
     requires few { count ≤ at }
     requires short { at + length octets.now ≤ 4096 }
-    requires room { count + length (section_fields ctx.now section.AttributeFlags at group octets.now) ≤ length list.old }
-    ensures list { list.new ≡ listed count (map T.told (section_fields ctx.now section.AttributeFlags at group octets.now)) list.old }
-    ensures count { result ≡ count + length (section_fields ctx.now section.AttributeFlags at group octets.now) }
+    requires room { count + length (section_fields_in reading.now section.AttributeFlags at group octets.now) ≤ length list.old }
+    ensures list { list.new ≡ listed count (map T.told (section_fields_in reading.now section.AttributeFlags at group octets.now)) list.old }
+    ensures count { result ≡ count + length (section_fields_in reading.now section.AttributeFlags at group octets.now) }
     ensures few { result ≤ at + length octets.now }
 {
     let mut place = at;
@@ -204,14 +212,14 @@ fn list_attributes<T: Listed>(
         list_head(place, &head, list, taken);
         holder = group_from(place, Some(head.kind), None);
         place += 2 + head.width;
-        let part = attribute_value(ctx, head.kind);
-        taken = list_inside(ctx, part, place, holder, head.value, list, taken + 3);
+        let part = attribute_value(&reading.ctx, head.kind);
+        taken = list_inside(reading, part, place, holder, head.value, list, taken + 3);
         place += head.value.len();
         left = head.rest;
     }
     // What is left isn't a whole attribute.
     list_any_section(
-        ctx,
+        reading,
         SectionPart::AttributeFlags,
         place,
         holder,
@@ -224,7 +232,7 @@ fn list_attributes<T: Listed>(
 /// Lists the fields of a section after the first `count` entries. Returns the number of entries used.
 #[inline(always)]
 fn list_section<T: Listed>(
-    ctx: &Context,
+    reading: &Reading,
     part: SectionPart,
     at: usize,
     group: Option<Group>,
@@ -234,23 +242,23 @@ fn list_section<T: Listed>(
 ) -> usize
     requires few { count ≤ at }
     requires short { at + length octets.now ≤ 4096 }
-    requires room { count + length (section_fields ctx.now part at group octets.now) ≤ length list.old }
-    ensures list { list.new ≡ listed count (map T.told (section_fields ctx.now part at group octets.now)) list.old }
-    ensures count { result ≡ count + length (section_fields ctx.now part at group octets.now) }
+    requires room { count + length (section_fields_in reading.now part at group octets.now) ≤ length list.old }
+    ensures list { list.new ≡ listed count (map T.told (section_fields_in reading.now part at group octets.now)) list.old }
+    ensures count { result ≡ count + length (section_fields_in reading.now part at group octets.now) }
     ensures few { result ≤ at + length octets.now }
 {
     if octets.is_empty() {
         return count;
     }
     match part {
-        SectionPart::AttributeFlags => list_attributes(ctx, at, group, octets, list, count),
-        _ => list_any_section(ctx, part, at, group, octets, list, count),
+        SectionPart::AttributeFlags => list_attributes(reading, at, group, octets, list, count),
+        _ => list_any_section(reading, part, at, group, octets, list, count),
     }
 }
 
 /// Lists the fields of a message after the first `count` entries. Returns the number of entries used.
 fn list_message<T: Listed>(
-    ctx: &Context,
+    reading: &Reading,
     part: MessagePart,
     at: usize,
     octets: &[u8],
@@ -259,21 +267,21 @@ fn list_message<T: Listed>(
 ) -> usize
     requires few { count ≤ at }
     requires short { at + length octets.now ≤ 4096 }
-    requires room { count + length (message_fields ctx.now part at None octets.now) ≤ length list.old }
-    ensures list { list.new ≡ listed count (map T.told (message_fields ctx.now part at None octets.now)) list.old }
-    ensures count { result ≡ count + length (message_fields ctx.now part at None octets.now) }
+    requires room { count + length (message_fields_in reading.now part at None octets.now) ≤ length list.old }
+    ensures list { list.new ≡ listed count (map T.told (message_fields_in reading.now part at None octets.now)) list.old }
+    ensures count { result ≡ count + length (message_fields_in reading.now part at None octets.now) }
 {
     let mut next = part;
     let mut place = at;
     let mut left = octets;
     let mut taken = count;
     'message: while !left.is_empty() {
-        let plan = message_plan(next, left).fit(left.len());
+        let plan = message_plan(reading.paths, next, left).fit(left.len());
         let (_, behind) = left.split_at(plan.len);
         let (inside, rest) = behind.split_at(plan.inner_len);
         list[taken] = T::of(field(place, plan.len, plan.kind, None));
         place += plan.len;
-        taken = list_section(ctx, plan.inner, place, None, inside, list, taken + 1);
+        taken = list_section(reading, plan.inner, place, None, inside, list, taken + 1);
         place += plan.inner_len;
         next = plan.next;
         left = rest;
@@ -288,10 +296,10 @@ impl<'a> FieldIter<'a> {
         ensures list { list.new ≡ map T.told (fields_left self.entry) ++ drop (length (fields_left self.entry)) list.old }
         ensures count { result ≡ length (fields_left self.entry) }
     {
-        let ctx = self.ctx;
+        let reading = self.reading;
         let behind = self.at + self.value_octets.len();
         let taken = list_value(
-            &ctx,
+            &reading,
             self.value,
             self.at,
             self.value_group,
@@ -300,7 +308,7 @@ impl<'a> FieldIter<'a> {
             0,
         );
         let taken = list_section(
-            &ctx,
+            &reading,
             self.section,
             behind,
             self.section_group,
@@ -309,6 +317,13 @@ impl<'a> FieldIter<'a> {
             taken,
         );
         let behind = behind + self.section_octets.len();
-        list_message(&ctx, self.message, behind, self.message_octets, list, taken)
+        list_message(
+            &reading,
+            self.message,
+            behind,
+            self.message_octets,
+            list,
+            taken,
+        )
     }
 }

@@ -3,7 +3,7 @@
 ghost use Rattle.std.specs.Prelude.{◌≡◌};
 ghost use Rattle.bgp_frame.specs.Prelude.{kind_of};
 ghost use Rattle.bgp_fields.specs.declared.kind.FieldKind.TheVariants.{ParametersLength, Unread};
-ghost use Rattle.bgp_fields.specs.Prelude.{afi_len, alone, behind, body_part, message_plan, message_planned};
+ghost use Rattle.bgp_fields.specs.Prelude.{afi_len, alone, behind, body_part, message_plan_in, message_planned, nlri_plan};
 ghost use Rattle.bgp_fields.specs.declared.part.MessagePart.TheVariants as message;
 ghost use Rattle.bgp_fields.specs.declared.part.SectionPart.TheVariants as section;
 
@@ -11,7 +11,9 @@ use crate::kind::FieldKind;
 use crate::octets::{octet, prefix_len, two};
 use crate::part::{MessagePart, SectionPart};
 use crate::plan::MessagePlan;
+use crate::reading::are_identified;
 use bgp_numbers::message;
+use bgp_paths::PathFamilies;
 
 /// A part that can't be read.
 const STUCK: MessagePart = MessagePart::All(FieldKind::Unread);
@@ -74,10 +76,29 @@ fn afi_len(body: &[u8]) -> usize
     if body.len() < 4 { 0 } else { 2 }
 }
 
+/// The next field of NLRI: a path identifier, where its routes have some, else a prefix of this length in bits.
+#[inline(always)]
+fn nlri(paths: Option<PathFamilies>, bits: u8) -> MessagePlan
+    ensures { message_planned result ≡ nlri_plan paths bits }
+{
+    if are_identified(paths, false) {
+        return alone(FieldKind::PathIdentifier, 4, MessagePart::NlriPrefix);
+    }
+    alone(
+        FieldKind::NlriPrefix,
+        prefix_len(false, bits),
+        MessagePart::Nlri,
+    )
+}
+
 /// The next field of these octets.
 #[inline(always)]
-pub(crate) fn message_plan(part: MessagePart, octets: &[u8]) -> MessagePlan
-    ensures { message_planned result ≡ message_plan part octets.now }
+pub(crate) fn message_plan(
+    paths: Option<PathFamilies>,
+    part: MessagePart,
+    octets: &[u8],
+) -> MessagePlan
+    ensures { message_planned result ≡ message_plan_in paths part octets.now }
 {
     let first = octet(octets, 0);
     match part {
@@ -103,7 +124,12 @@ pub(crate) fn message_plan(part: MessagePart, octets: &[u8]) -> MessagePlan
             usize::from(two(octets)),
             MessagePart::Nlri,
         ),
-        MessagePart::Nlri => alone(FieldKind::NlriPrefix, prefix_len(false, first), part),
+        MessagePart::Nlri => nlri(paths, first),
+        MessagePart::NlriPrefix => alone(
+            FieldKind::NlriPrefix,
+            prefix_len(false, first),
+            MessagePart::Nlri,
+        ),
         MessagePart::ErrorCode => alone(FieldKind::ErrorCode, 1, MessagePart::ErrorSubcode),
         MessagePart::ErrorSubcode => alone(
             FieldKind::ErrorSubcode,

@@ -18,7 +18,9 @@ pub(crate) enum MessagePart {
     /// An UPDATE's body (RFC 4271, section 4.3).
     WithdrawnLength,
     AttributesLength,
+    /// A route of NLRI; its prefix after a path identifier (RFC 7911, section 3).
     Nlri,
+    NlriPrefix,
     /// A NOTIFICATION's body (RFC 4271, section 4.5).
     ErrorCode,
     ErrorSubcode,
@@ -36,8 +38,9 @@ pub(crate) enum MessagePart {
 /// The next part of Withdrawn Routes, Path Attributes or Optional Parameters.
 #[derive(Clone, Copy)]
 pub(crate) enum SectionPart {
-    /// A prefix of Withdrawn Routes.
+    /// A route of Withdrawn Routes; its prefix after a path identifier.
     Withdrawn,
+    WithdrawnPrefix,
     /// An optional parameter (RFC 4271, section 4.2), its length after this type.
     ParameterType,
     ParameterLength(u8),
@@ -56,8 +59,10 @@ pub(crate) enum ValuePart {
     One(FieldKind, u8),
     /// Fields of this kind and length in octets each.
     Row(FieldKind, u8),
-    /// Prefixes of IPv6 if true, else of IPv4, each a field of this kind.
+    /// Routes of IPv6 if true, else of IPv4, each with a prefix, a field of this kind.
     Prefixes(FieldKind, bool),
+    /// The prefix of such a route after a path identifier, and then routes.
+    PathPrefix(FieldKind, bool),
     /// The AS number of an aggregator, of four octets or two, and then its address.
     Aggregator(bool),
     /// A segment of a path of AS numbers of four octets, else of two, in which segments of confederations are read or not.

@@ -83,7 +83,7 @@ fn from_place(octets: &[u8], at: usize) -> &[u8]
 }
 
 /// The attribute at an offset of the field.
-fn attribute_span(sections: &Sections<'_>, at: usize) -> Span
+pub(crate) fn attribute_span(sections: &Sections<'_>, at: usize) -> Span
     requires at { at ≤ 4096 }
     requires short { length sections.now.withdrawn.now + (length sections.now.attributes.now + length sections.now.nlri.now) ≤ 4096 }
     ensures { result ≡ attribute_place (sections_value sections.now) at }
@@ -108,7 +108,7 @@ fn asking_span(resets: bool, ctx: &Context, sections: &Sections<'_>) -> Option<S
 }
 
 /// The first bad prefix of a field that begins at this offset.
-fn run_span(at: usize, octets: &[u8]) -> Option<Span>
+pub(crate) fn run_span(at: usize, octets: &[u8]) -> Option<Span>
     requires at { at ≤ 8192 }
     requires short { length octets.now ≤ 8192 }
     ensures { result ≡ run_place at octets.now }
@@ -123,7 +123,7 @@ fn run_span(at: usize, octets: &[u8]) -> Option<Span>
 }
 
 /// The length field that is too large.
-fn length_span(body: &[u8]) -> Span
+pub(crate) fn length_span(body: &[u8]) -> Span
     requires { length body.now ≤ 4096 }
     ensures { result ≡ length_place (behind_two body.now) }
 {

@@ -2,7 +2,7 @@
 
 ghost use Rattle.std.specs.Prelude.{◌≡◌};
 ghost use Rattle.bgp_attr.specs.Prelude.{length_width};
-ghost use Rattle.bgp_fields.specs.Prelude.{attribute_value, attribute_len, nothing_inside, leaf, opening, behind, parameter_value, section_plan, section_planned};
+ghost use Rattle.bgp_fields.specs.Prelude.{attribute_value, attribute_len, nothing_inside, leaf, opening, behind, parameter_value, section_plan_in, section_planned, withdrawn_plan};
 ghost use Rattle.bgp_fields.specs.declared.kind.FieldKind.TheVariants.{AttributeLength, ParameterLength};
 ghost use Rattle.bgp_fields.specs.declared.part.SectionPart.TheVariants as section;
 
@@ -10,9 +10,11 @@ use crate::kind::FieldKind;
 use crate::octets::{octet, prefix_len, two};
 use crate::part::{SectionPart, ValuePart};
 use crate::plan::SectionPlan;
+use crate::reading::{Reading, are_identified};
 use bgp_attr::Flags;
 use bgp_numbers::{attribute, parameter};
 use bgp_open::Context;
+use bgp_paths::PathFamilies;
 
 /// Nothing inside.
 const NOTHING: ValuePart = ValuePart::All(FieldKind::Unread);
@@ -120,14 +122,34 @@ fn attribute_length(ctx: &Context, flags: u8, kind: u8, octets: &[u8]) -> Sectio
     }
 }
 
+/// The next field of Withdrawn Routes: a path identifier, where the routes have some, else a prefix of this length in bits.
+#[inline(always)]
+fn withdrawn(paths: Option<PathFamilies>, bits: u8) -> SectionPlan
+    ensures { section_planned result ≡ withdrawn_plan paths bits }
+{
+    if are_identified(paths, false) {
+        return leaf(FieldKind::PathIdentifier, 4, SectionPart::WithdrawnPrefix);
+    }
+    leaf(
+        FieldKind::WithdrawnPrefix,
+        prefix_len(false, bits),
+        SectionPart::Withdrawn,
+    )
+}
+
 /// The next field of these octets.
 #[inline(always)]
-pub(crate) fn section_plan(ctx: &Context, part: SectionPart, octets: &[u8]) -> SectionPlan
-    ensures { section_planned result ≡ section_plan ctx.now part octets.now }
+pub(crate) fn section_plan(reading: &Reading, part: SectionPart, octets: &[u8]) -> SectionPlan
+    ensures { section_planned result ≡ section_plan_in reading.now part octets.now }
 {
     let first = octet(octets, 0);
     match part {
-        SectionPart::Withdrawn => leaf(FieldKind::WithdrawnPrefix, prefix_len(false, first), part),
+        SectionPart::Withdrawn => withdrawn(reading.paths, first),
+        SectionPart::WithdrawnPrefix => leaf(
+            FieldKind::WithdrawnPrefix,
+            prefix_len(false, first),
+            SectionPart::Withdrawn,
+        ),
         SectionPart::ParameterType => opening(
             FieldKind::ParameterType,
             first,
@@ -144,7 +166,9 @@ pub(crate) fn section_plan(ctx: &Context, part: SectionPart, octets: &[u8]) -> S
             1,
             SectionPart::AttributeLength(flags, first),
         ),
-        SectionPart::AttributeLength(flags, kind) => attribute_length(ctx, flags, kind, octets),
+        SectionPart::AttributeLength(flags, kind) => {
+            attribute_length(&reading.ctx, flags, kind, octets)
+        }
         SectionPart::All(kind) => leaf(kind, octets.len(), SectionPart::All(FieldKind::Unread)),
     }
 }

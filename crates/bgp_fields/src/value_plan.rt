@@ -1,7 +1,7 @@
 //! The next field of the value of an attribute or of a parameter.
 
 ghost use Rattle.std.specs.Prelude.{◌≡◌, if◌then◌else◌};
-ghost use Rattle.bgp_fields.specs.Prelude.{is_segment, numbers_behind, behind_number, behind_family, hop_behind, hop_plan, reach_prefixes, capability_value, capability_behind, one, opening, value_plan, value_planned};
+ghost use Rattle.bgp_fields.specs.Prelude.{is_segment, numbers_behind, behind_number, behind_family, hop_behind, hop_plan, reach_prefixes, capability_value, capability_behind, one, opening, routes_plan, value_plan_in, value_planned};
 ghost use Rattle.bgp_fields.specs.declared.kind.FieldKind.TheVariants.{CapabilityCode, CapabilityLength, SegmentType, AsNumber, Address};
 ghost use Rattle.bgp_fields.specs.declared.part.ValuePart.TheVariants as value;
 ghost use Rattle.bgp_attr.specs.Prelude.{number_width};
@@ -10,8 +10,10 @@ use crate::kind::FieldKind;
 use crate::octets::{octet, prefix_len, two};
 use crate::part::ValuePart;
 use crate::plan::ValuePlan;
+use crate::reading::{Reading, are_identified};
 use bgp_numbers::{afi, capability, safi, segment};
 use bgp_open::Context;
+use bgp_paths::PathFamilies;
 
 /// A part that can't be read.
 const STUCK: ValuePart = ValuePart::All(FieldKind::Unread);
@@ -208,16 +210,36 @@ fn capability_length(code: u8, len: u8, left: usize) -> ValuePlan
     )
 }
 
+/// The next field of routes: a path identifier, where they have some, else a prefix of this length in bits, a field of this kind.
+#[inline(always)]
+fn routes(paths: Option<PathFamilies>, kind: FieldKind, ip6: bool, bits: u8) -> ValuePlan
+    ensures { value_planned result ≡ routes_plan paths kind ip6 bits }
+{
+    if are_identified(paths, ip6) {
+        return one(
+            FieldKind::PathIdentifier,
+            4,
+            ValuePart::PathPrefix(kind, ip6),
+        );
+    }
+    one(kind, prefix_len(ip6, bits), ValuePart::Prefixes(kind, ip6))
+}
+
 /// The next field of these octets.
 #[inline(always)]
-pub(crate) fn value_plan(ctx: &Context, part: ValuePart, octets: &[u8]) -> ValuePlan
-    ensures { value_planned result ≡ value_plan ctx.now part octets.now }
+pub(crate) fn value_plan(reading: &Reading, part: ValuePart, octets: &[u8]) -> ValuePlan
+    ensures { value_planned result ≡ value_plan_in reading.now part octets.now }
 {
     let first = octet(octets, 0);
     match part {
         ValuePart::One(kind, n) => one(kind, usize::from(n), STUCK),
         ValuePart::Row(kind, n) => one(kind, usize::from(n), part),
-        ValuePart::Prefixes(kind, ip6) => one(kind, prefix_len(ip6, first), part),
+        ValuePart::Prefixes(kind, ip6) => routes(reading.paths, kind, ip6, first),
+        ValuePart::PathPrefix(kind, ip6) => one(
+            kind,
+            prefix_len(ip6, first),
+            ValuePart::Prefixes(kind, ip6),
+        ),
         ValuePart::Aggregator(wide) => aggregator(wide),
         ValuePart::Segment(wide, confederations) => segment_type(wide, confederations, first),
         ValuePart::SegmentCount(wide, confederations) => one(
@@ -230,7 +252,7 @@ pub(crate) fn value_plan(ctx: &Context, part: ValuePart, octets: &[u8]) -> Value
         ValuePart::Safi(reach, family) => one(
             FieldKind::Safi,
             1,
-            behind_family(ctx, reach, family, first),
+            behind_family(&reading.ctx, reach, family, first),
         ),
         ValuePart::NextHopLength(ip6) => one(FieldKind::NextHopLength, 1, hop_behind(ip6, first)),
         ValuePart::NextHop(ip6, n) => next_hop(ip6, n),

@@ -1,10 +1,10 @@
 -- The lines of fields and notes, field by field.
 use Rattle.std.specs.Prelude.{◌||◌}
 use Rattle.bgp_text.proofs.Prelude.{◌≡◌, ℕ, Bool, true, false, List, [], ◌∷◌, ◌++◌, Option, None, Some, if◌then◌else◌, refl, ap, sym, ◌∙◌, append_assoc}
-use Rattle.bgp_text.proofs.Prelude.{flat_map, Note, notes_left, field_line, is_at, is_in, is_of, is_next, note_place, note_reason, noted_line, noted_lines, reason_line, unplaced_line, row_of, note_at}
+use Rattle.bgp_text.proofs.Prelude.{flat_map, Note, row_left, field_line, is_at, is_in, is_of, is_next, note_place, note_reason, noted_line, noted_lines, reason_line, unplaced_line, row_of, note_at}
 use Rattle.bgp_text.proofs.Prelude.{noting_lines, plain_line}
 use Rattle.std.specs.Iterator.{YieldsFirst}
-use Rattle.bgp_update.specs.declared.note_iter.NoteIter.{NoteIter}
+use Rattle.bgp_text.specs.declared.note_row.NoteRow.{NoteRow}
 use Rattle.bgp_text.specs.declared.field_lines.Noting.{Noting}
 use Rattle.bgp_fields.specs.declared.field.Field.{Field}
 
@@ -61,15 +61,15 @@ pub put_none : (message : List ℕ) (noting : Noting) (f : Field) (old new : Lis
     → note_at noting.next message f ≡ None → new ≡ old ++ field_line (is_next noting.next f || is_in noting.place f.group) message f
     → (fields : List Field) → new ++ noting_lines message noting fields ≡ old ++ noting_lines message noting (f ∷ fields)
 put_none message noting f old new none wrote fields =
-    added old new _ _ _ wrote (at_none message noting.place noting.next (notes_left noting.later) f fields none)
+    added old new _ _ _ wrote (at_none message noting.place noting.next (row_left noting.later) f fields none)
 
 -- the row of notes after the first one
-pub next_row : (later : NoteIter) (first : Option Note) (rest : NoteIter) → YieldsFirst notes_left later first rest → row_of first (notes_left rest) ≡ notes_left later
+pub next_row : (later : NoteRow) (first : Option Note) (rest : NoteRow) → YieldsFirst row_left later first rest → row_of first (row_left rest) ≡ row_left later
 next_row later None rest yields = cc
 next_row later (Some n) rest yields = cc
 
-pub put_note : (message : List ℕ) (noting : Noting) (n : Note) (first : Option Note) (rest : NoteIter) (f : Field) (old new : List ℕ)
-    → note_at noting.next message f ≡ Some n → YieldsFirst notes_left noting.later first rest
+pub put_note : (message : List ℕ) (noting : Noting) (n : Note) (first : Option Note) (rest : NoteRow) (f : Field) (old new : List ℕ)
+    → note_at noting.next message f ≡ Some n → YieldsFirst row_left noting.later first rest
     → new ≡ old ++ (reason_line f.at (note_reason n) ++ field_line (is_next noting.next f || is_in noting.place f.group) message f)
     → (fields : List Field)
     → new ++ noting_lines message (record { next = first; later = rest; place = note_place n }) fields ≡ old ++ noting_lines message noting (f ∷ fields)
@@ -78,7 +78,7 @@ put_note message noting n first rest f old new some yields wrote fields =
     (wrote
     ∙ ap (λ (of : Bool). old ++ (reason_line f.at (note_reason n) ++ field_line (of || is_in noting.place f.group) message f))
     (told_is_next message noting.next n f some))
-    (at_note message noting.place noting.next (notes_left noting.later) n f fields some
+    (at_note message noting.place noting.next (row_left noting.later) n f fields some
     ∙ ap (λ notes. noted_line message noting.place n f ++ noted_lines message (note_place n) notes fields) (sym (next_row noting.later first rest yields)))
 
 -- where there are no notes

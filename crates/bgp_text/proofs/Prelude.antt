@@ -12,6 +12,7 @@ pub use Rattle.bgp_attr.specs.Prelude.{opaque_value, segments_left}
 pub use Rattle.bgp_update.specs.Prelude.{cut_kind, known_of, known_value, notes_left, notes_value, placed_tlvs, update_value, without_reset}
 unfoldable pub use Rattle.bgp_update.specs.Prelude.{slot}
 pub use Rattle.bgp_text.specs.FieldLines.{faulty_line, field_line, note_reason, noted_line, reason_line, unplaced_line}
+pub use Rattle.bgp_text.specs.NoteRow.{row_left}
 pub use Rattle.bgp_text.specs.Reasons.{is_at, is_in, is_of, note_place}
 unfoldable pub use Rattle.bgp_text.specs.FieldLines.{noted_lines}
 pub use Rattle.bgp_text.specs.Json.{behind_comma, listed, named}

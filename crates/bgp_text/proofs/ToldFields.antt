@@ -3,9 +3,9 @@ use Rattle.std.specs.Prelude.{◌||◌}
 use Rattle.std.specs.Iterator.{YieldsFirst}
 use Rattle.std.proofs.lemmas.List.{append-nil}
 use Rattle.bgp_text.proofs.Prelude.{◌≡◌, ℕ, Bool, true, false, List, [], ◌∷◌, Option, None, Some, map, if◌then◌else◌, refl, ap, sym, ◌∙◌}
-use Rattle.bgp_text.proofs.Prelude.{Note, notes_left, is_at, is_in, is_next, note_place, row_of, note_at}
+use Rattle.bgp_text.proofs.Prelude.{Note, row_left, is_at, is_in, is_next, note_place, row_of, note_at}
 use Rattle.bgp_text.proofs.Prelude.{noted_field, passed_field, plain_field, noted_fields, unplaced_notes, noting_fields, noting_left}
-use Rattle.bgp_update.specs.declared.note_iter.NoteIter.{NoteIter}
+use Rattle.bgp_text.specs.declared.note_row.NoteRow.{NoteRow}
 use Rattle.bgp_text.specs.declared.field_lines.Noting.{Noting}
 use Rattle.bgp_text.specs.declared.told.Told.{Told}
 use Rattle.bgp_text.specs.declared.told.Wrong.{Wrong}
@@ -30,7 +30,7 @@ none_unplaced message (f ∷ fields) = refl
 
 pub nothing_left : (message : List ℕ) (noting : Noting) (fields : List Field) → noting.next ≡ None → noting_left message noting fields ≡ []
 nothing_left message noting fields none =
-    ap (λ (next : Option Note). unplaced_notes message (row_of next (notes_left noting.later)) fields) none ∙ none_unplaced message fields
+    ap (λ (next : Option Note). unplaced_notes message (row_of next (row_left noting.later)) fields) none ∙ none_unplaced message fields
 
 -- ---- a field at which no note is reported
 
@@ -64,11 +64,11 @@ none_left message (Some m) later f fields e = at (is_at message m f) e
 pub tell_none : (message : List ℕ) (noting : Noting) (f : Field) → note_at noting.next message f ≡ None → (fields : List Field)
     → noting_fields message noting (f ∷ fields)
     ≡ record { field = f; marked = is_next noting.next f || is_in noting.place f.group; wrong = Wrong.Nothing } ∷ noting_fields message noting fields
-tell_none message noting f none fields = none_told message noting.place noting.next (notes_left noting.later) f fields none
+tell_none message noting f none fields = none_told message noting.place noting.next (row_left noting.later) f fields none
 
 pub leave_none : (message : List ℕ) (noting : Noting) (f : Field) → note_at noting.next message f ≡ None → (fields : List Field)
     → noting_left message noting (f ∷ fields) ≡ noting_left message noting fields
-leave_none message noting f none fields = none_left message noting.next (notes_left noting.later) f fields none
+leave_none message noting f none fields = none_left message noting.next (row_left noting.later) f fields none
 
 -- ---- a field at which one is reported
 
@@ -98,25 +98,25 @@ note_left message (Some m) later n f fields e = at (is_at message m f) e
     at true same = refl
     at false same = absurd cc
 
-pub tell_note : (message : List ℕ) (noting : Noting) (n : Note) (next : Option Note) (rest : NoteIter) (f : Field)
-    → note_at noting.next message f ≡ Some n → YieldsFirst notes_left noting.later next rest → (fields : List Field)
+pub tell_note : (message : List ℕ) (noting : Noting) (n : Note) (next : Option Note) (rest : NoteRow) (f : Field)
+    → note_at noting.next message f ≡ Some n → YieldsFirst row_left noting.later next rest → (fields : List Field)
     → noting_fields message noting (f ∷ fields)
     ≡ record { field = f; marked = is_next noting.next f || is_in noting.place f.group; wrong = Wrong.Noted n }
     ∷ noting_fields message (record { next = next; later = rest; place = note_place n }) fields
 tell_note message noting n next rest f some yields fields =
-    note_told message noting.place noting.next (notes_left noting.later) n f fields some
+    note_told message noting.place noting.next (row_left noting.later) n f fields some
     ∙ (ap (λ (of : Bool). record { field = f; marked = of || is_in noting.place f.group; wrong = Wrong.Noted n }
-    ∷ noted_fields message (note_place n) (notes_left noting.later) fields)
+    ∷ noted_fields message (note_place n) (row_left noting.later) fields)
     (sym (told_is_next message noting.next n f some))
     ∙ ap (λ (notes : List Note). record { field = f; marked = is_next noting.next f || is_in noting.place f.group; wrong = Wrong.Noted n }
     ∷ noted_fields message (note_place n) notes fields)
     (sym (next_row noting.later next rest yields)))
 
-pub leave_note : (message : List ℕ) (noting : Noting) (n : Note) (next : Option Note) (rest : NoteIter) (f : Field)
-    → note_at noting.next message f ≡ Some n → YieldsFirst notes_left noting.later next rest → (fields : List Field)
+pub leave_note : (message : List ℕ) (noting : Noting) (n : Note) (next : Option Note) (rest : NoteRow) (f : Field)
+    → note_at noting.next message f ≡ Some n → YieldsFirst row_left noting.later next rest → (fields : List Field)
     → noting_left message noting (f ∷ fields) ≡ noting_left message (record { next = next; later = rest; place = note_place n }) fields
 leave_note message noting n next rest f some yields fields =
-    note_left message noting.next (notes_left noting.later) n f fields some
+    note_left message noting.next (row_left noting.later) n f fields some
     ∙ ap (λ (notes : List Note). unplaced_notes message notes fields) (sym (next_row noting.later next rest yields))
 
 -- where there are no notes

@@ -41,7 +41,7 @@ pub use Rattle.bgp_update.specs.declared.update.Update.{Update}
 pub use Rattle.bgp_msg.specs.Prelude.{of_fault, out_of, outcome_value}
 pub use Rattle.bgp_msg.specs.declared.message.Message.{Message}
 pub use Rattle.bgp_msg.specs.declared.outcome.Outcome.{Outcome}
-pub use Rattle.bgp_fields.specs.Prelude.{fields_left, fields_of, octets_in, refresh_fields}
+pub use Rattle.bgp_fields.specs.Prelude.{fields_left, fields_of, octets_in, path_fields, refresh_fields}
 pub use Rattle.bgp_fields.specs.declared.cause.Cause.{Cause}
 pub use Rattle.bgp_fields.specs.declared.field.Fault.{Fault}
 pub use Rattle.bgp_fields.specs.declared.field.Field.{Field}

@@ -56,6 +56,7 @@ is_number FieldKind.Med = true
 is_number FieldKind.LocalPref = true
 is_number FieldKind.NextHopLength = true
 is_number FieldKind.ErrorCode = true
+is_number FieldKind.PathIdentifier = true
 is_number FieldKind.Subtype = true
 is_number _ = false
 

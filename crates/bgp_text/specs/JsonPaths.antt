@@ -4,7 +4,6 @@ use Rattle.std.specs.Fmt.{decimal}
 use Rattle.bgp_paths.specs.Prelude.{PathNumbers}
 use Rattle.bgp_numbers.specs.declared.afi.TheConstants.{IPV4, IPV6}
 use Rattle.bgp_text.specs.Below.{Attr, MpReach, MpUnreach, Message, Note, Outcome, Routes, Update}
-use Rattle.bgp_text.specs.declared.beside.Beside.{Beside}
 use Rattle.bgp_text.specs.declared.placed_notes.PlacedNote.{PlacedNote}
 use Rattle.bgp_text.specs.Beside.{beside, numbers_ip4, numbers_ip6}
 use Rattle.bgp_text.specs.Json.{line_end, listed, member}

@@ -25,6 +25,7 @@ pub mod Outcome
 pub mod RefreshLine
 pub mod Beside
 pub mod PlacedNotes
+pub mod NoteRow
 pub mod PathLines
 pub mod Explained
 pub mod Json
@@ -39,5 +40,6 @@ pub mod JsonOutcome
 pub mod JsonRefresh
 pub mod JsonPaths
 pub mod JsonFields
+pub mod PathExplained
 pub mod JsonEnd
 pub mod steps

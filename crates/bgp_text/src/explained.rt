@@ -7,6 +7,7 @@ ghost use Rattle.bgp_text.specs.Explained.{count_text, explained_fields, explain
 use crate::field_lines::{put_faulty_fields, put_noted_fields, put_plain_fields};
 use crate::field_values::part;
 use crate::info::told_text;
+use crate::note_row::NoteRow;
 use crate::outcome_lines::{put_viewed_outcome, reset_name};
 use crate::refresh_line::put_refresh;
 use crate::short::{Decimal, put_one};
@@ -33,7 +34,7 @@ fn put_count(text: &mut String, info: &[u8]) -> Result<(), AllocError>
 }
 
 /// Adds the line of a reset, with at most 64 octets of its data.
-fn put_reset(
+pub(crate) fn put_reset(
     alloc: Global,
     text: &mut String,
     place: u64,
@@ -85,7 +86,7 @@ fn put_fields(
     let fields = FieldIter::new(ctx, message);
     match outcome {
         OutcomeView::Update(view) | OutcomeView::Withdraw(view) => {
-            put_noted_fields(text, message, view.notes(), fields)
+            put_noted_fields(text, message, NoteRow::plain(view.notes()), fields)
         }
         OutcomeView::Open(_) | OutcomeView::Notification(_) | OutcomeView::Keepalive => {
             put_plain_fields(text, message, fields)

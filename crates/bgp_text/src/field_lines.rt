@@ -2,7 +2,8 @@
 
 ghost use Rattle.std.specs.Prelude.{◌≡◌, ◌≤◌, Some, ◌++◌, [], ◌∷◌, ℕ, List, true, codes, length, OnOk};
 ghost use Rattle.bgp_text.specs.Below.{flat_map, string_bytes, hex_octet, attribute_name};
-ghost use Rattle.bgp_text.specs.Below.{notification_of_view, notes_left, fields_left, Field as FieldValue};
+ghost use Rattle.bgp_text.specs.Below.{notification_of_view, fields_left, Field as FieldValue};
+ghost use Rattle.bgp_text.specs.NoteRow.{row_left};
 ghost use Rattle.bgp_text.specs.steps.Rows.{is_next, row_of, note_at, noting_lines, plain_line};
 ghost use Rattle.bgp_text.specs.FieldLines.{margin, field_said, field_text, field_line, type_text, wanted_text, note_reason, reason_place, reason_line, unplaced_line, noted_lines, answer_text, reset_reason, overlaps, holds, faulty_line};
 
@@ -11,13 +12,14 @@ use crate::field_names::field_name;
 use crate::field_values::{part, put_spaced, put_value};
 use crate::json::put_digits;
 use crate::note_lines::why_name;
+use crate::note_row::NoteRow;
 use crate::reasons::{cause_wanted, is_at, is_in, is_of, note_place, note_wanted};
 use crate::sections::{cause_section, note_section};
 use crate::short::{Decimal, put_one};
 use bgp_fields::{Cause, Fault, Field, FieldIter, Span};
 use bgp_frame::NotificationView;
 use bgp_names::{attribute_name, subcode_name};
-use bgp_update::{Note, NoteIter};
+use bgp_update::Note;
 use std::alloc::AllocError;
 
 /// The beginning of a line: marked where a fault is.
@@ -144,15 +146,15 @@ fn put_unplaced(text: &mut String, note: &Note) -> Result<(), AllocError>
 fn put_unplaced_row(
     text: &mut String,
     first: Option<Note>,
-    later: NoteIter<'_>,
+    later: NoteRow<'_>,
 ) -> Result<(), AllocError>
-    ensures { OnOk result (string_bytes text.new ≡ string_bytes text.old ++ flat_map unplaced_line (row_of first (notes_left later.entry))) }
+    ensures { OnOk result (string_bytes text.new ≡ string_bytes text.old ++ flat_map unplaced_line (row_of first (row_left later.entry))) }
 {
     let mut next = first;
     let mut left = later;
     'row: while let Some(note) = next {
         put_unplaced(text, &note)?;
-        next = left.next();
+        next = left.step();
     }
     Ok(())
 }
@@ -161,7 +163,7 @@ fn put_unplaced_row(
 #[derive(Clone, Copy)]
 pub(crate) struct Noting<'a> {
     pub(crate) next: Option<Note>,
-    pub(crate) later: NoteIter<'a>,
+    pub(crate) later: NoteRow<'a>,
     pub(crate) place: u32,
 }
 
@@ -187,13 +189,13 @@ pub(crate) fn is_next(next: Option<Note>, field: &Field) -> bool
 
 impl<'a> Noting<'a> {
     /// Before all notes.
-    pub(crate) fn new(notes: NoteIter<'a>) -> Noting<'a>
-        ensures row { row_of result.next (notes_left result.later) ≡ notes_left notes.entry }
+    pub(crate) fn new(notes: NoteRow<'a>) -> Noting<'a>
+        ensures row { row_of result.next (row_left result.later) ≡ row_left notes.entry }
         ensures place { result.place ≡ 0 }
-        ensures lines { (message : List ℕ) (fields : List FieldValue) → noting_lines message result fields ≡ noted_lines message 0 (notes_left notes.entry) fields }
+        ensures lines { (message : List ℕ) (fields : List FieldValue) → noting_lines message result fields ≡ noted_lines message 0 (row_left notes.entry) fields }
     {
         let mut later = notes;
-        let next = later.next();
+        let next = later.step();
         Noting {
             next,
             later,
@@ -212,7 +214,7 @@ impl<'a> Noting<'a> {
             Some(note) => {
                 put_noted(text, marked, message, &note, field)?;
                 self.place = note_place(&note);
-                self.next = self.later.next();
+                self.next = self.later.step();
                 Ok(())
             }
             None => put_plain(text, marked, message, field),
@@ -225,10 +227,10 @@ impl<'a> Noting<'a> {
 pub(crate) fn put_noted_fields(
     text: &mut String,
     message: &[u8],
-    notes: NoteIter<'_>,
+    notes: NoteRow<'_>,
     fields: FieldIter<'_>,
 ) -> Result<(), AllocError>
-    ensures { OnOk result (string_bytes text.new ≡ string_bytes text.old ++ noted_lines message.now 0 (notes_left notes.entry) (fields_left fields.entry)) }
+    ensures { OnOk result (string_bytes text.new ≡ string_bytes text.old ++ noted_lines message.now 0 (row_left notes.entry) (fields_left fields.entry)) }
 {
     let mut noting = Noting::new(notes);
     let mut left = fields;

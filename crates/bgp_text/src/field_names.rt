@@ -54,6 +54,7 @@ pub fn field_name(kind: FieldKind) -> &'static str
         FieldKind::ErrorCode => "Error Code",
         FieldKind::ErrorSubcode => "Error Subcode",
         FieldKind::Data => "Data",
+        FieldKind::PathIdentifier => "Path Identifier",
         FieldKind::Subtype => "Message Subtype",
         FieldKind::Unread => "unread",
     }

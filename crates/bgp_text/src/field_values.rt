@@ -93,6 +93,7 @@ fn is_number(kind: FieldKind) -> bool
         | FieldKind::LocalPref
         | FieldKind::NextHopLength
         | FieldKind::ErrorCode
+        | FieldKind::PathIdentifier
         | FieldKind::Subtype => true,
         _ => false,
     }

@@ -1,7 +1,8 @@
 //! What `explain --json` prints for a message.
 
 ghost use Rattle.std.specs.Prelude.{◌≡◌, ◌≤◌, ◌++◌, codes, length, map, OnOk};
-ghost use Rattle.bgp_text.specs.Below.{flat_map, string_bytes, notes_left, fields_left, outcome_value, refresh_value};
+ghost use Rattle.bgp_text.specs.Below.{flat_map, string_bytes, fields_left, outcome_value, refresh_value};
+ghost use Rattle.bgp_text.specs.NoteRow.{row_left};
 ghost use Rattle.bgp_text.specs.FieldLines.{field_said, reset_reason};
 ghost use Rattle.bgp_text.specs.Json.{behind_comma, quoted, where_said};
 ghost use Rattle.bgp_text.specs.JsonFields.{without_space, field_members, marked_member, wrong_member, told_json, faulty_field, fields_member, unplaced_json, faults_member, noted_members, explained_members, span_of, explained_json, explained_refresh_json};
@@ -17,13 +18,14 @@ use crate::json::{
 use crate::json_list::{Element, put_list_member};
 use crate::json_outcome::put_viewed_members;
 use crate::json_refresh::put_refresh_members;
+use crate::note_row::NoteRow;
 use crate::told::{FaultyFields, NotedFields, PlainFields, Shown, Wrong, behind_fields};
 use bgp_fields::{Cause, Fault, Field, FieldIter, Span};
 use bgp_frame::NotificationView;
 use bgp_msg::OutcomeView;
 use bgp_open::Context;
 use bgp_refresh::RefreshView;
-use bgp_update::{Note, NoteIter};
+use bgp_update::Note;
 use std::alloc::{AllocError, Global};
 
 /// The value of a field, without the space before it.
@@ -126,11 +128,11 @@ impl<'a> Element for Shown<'a> {
 }
 
 /// Adds notes that have no field, each after a comma.
-fn put_further(text: &mut String, notes: NoteIter<'_>) -> Result<(), AllocError>
-    ensures { OnOk result (string_bytes text.new ≡ string_bytes text.old ++ flat_map (behind_comma unplaced_json) (notes_left notes.entry)) }
+fn put_further(text: &mut String, notes: NoteRow<'_>) -> Result<(), AllocError>
+    ensures { OnOk result (string_bytes text.new ≡ string_bytes text.old ++ flat_map (behind_comma unplaced_json) (row_left notes.entry)) }
 {
     let mut left = notes;
-    'row: while let Some(note) = left.next() {
+    'row: while let Some(note) = left.step() {
         text.push_str(",")?;
         put_note(text, &note)?;
     }
@@ -139,8 +141,8 @@ fn put_further(text: &mut String, notes: NoteIter<'_>) -> Result<(), AllocError>
 
 /// Adds the notes that have no field, if there are any: those of a row whose first one was removed.
 #[tactic(auto, unfolding(crate::specs::Json::joined))]
-fn put_faults(text: &mut String, first: Option<Note>, later: NoteIter<'_>) -> Result<(), AllocError>
-    ensures { OnOk result (string_bytes text.new ≡ string_bytes text.old ++ faults_member (row_of first (notes_left later.entry))) }
+fn put_faults(text: &mut String, first: Option<Note>, later: NoteRow<'_>) -> Result<(), AllocError>
+    ensures { OnOk result (string_bytes text.new ≡ string_bytes text.old ++ faults_member (row_of first (row_left later.entry))) }
 {
     let Some(note) = first else {
         return Ok(());
@@ -191,14 +193,14 @@ fn put_noting(
 }
 
 /// Adds the fields of an UPDATE, and the notes that have none.
-fn put_noted(
+pub(crate) fn put_noted(
     alloc: Global,
     text: &mut String,
     message: &[u8],
-    notes: NoteIter<'_>,
+    notes: NoteRow<'_>,
     fields: FieldIter<'_>,
 ) -> Result<(), AllocError>
-    ensures { OnOk result (string_bytes text.new ≡ string_bytes text.old ++ noted_members message.now (notes_left notes.entry) (fields_left fields.entry)) }
+    ensures { OnOk result (string_bytes text.new ≡ string_bytes text.old ++ noted_members message.now (row_left notes.entry) (fields_left fields.entry)) }
 {
     let noting = Noting::new(notes);
     put_noting(alloc, text, message, noting, fields)?;
@@ -207,7 +209,7 @@ fn put_noted(
 
 /// Adds the fields of a message without notes.
 #[tactic(auto, using(crate::proofs::JsonLists::listed_map))]
-fn put_plain(
+pub(crate) fn put_plain(
     alloc: Global,
     text: &mut String,
     message: &[u8],
@@ -225,7 +227,7 @@ fn put_plain(
 
 /// Adds the fields of a message that causes a NOTIFICATION.
 #[tactic(auto, using(crate::proofs::JsonLists::listed_map))]
-fn put_faulty(
+pub(crate) fn put_faulty(
     alloc: Global,
     text: &mut String,
     message: &[u8],
@@ -262,7 +264,7 @@ fn put_fields(
     let fields = FieldIter::new(ctx, message);
     match outcome {
         OutcomeView::Update(view) | OutcomeView::Withdraw(view) => {
-            put_noted(alloc, text, message, view.notes(), fields)
+            put_noted(alloc, text, message, NoteRow::plain(view.notes()), fields)
         }
         OutcomeView::Open(_) | OutcomeView::Notification(_) | OutcomeView::Keepalive => {
             put_plain(alloc, text, message, fields)
@@ -272,7 +274,7 @@ fn put_fields(
 }
 
 /// The octets at fault.
-fn span_of(fault: Option<Fault>) -> Option<Span>
+pub(crate) fn span_of(fault: Option<Fault>) -> Option<Span>
     ensures { result ≡ span_of fault }
 {
     match fault {

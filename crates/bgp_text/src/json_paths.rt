@@ -300,7 +300,7 @@ fn put_withdrawn(
 
 /// Adds the object of an outcome except its end.
 #[tactic(auto, unfolding(crate::specs::JsonOutcome::outcome_members, crate::specs::JsonOutcome::took_members))]
-fn put_path_members(
+pub(crate) fn put_path_members(
     alloc: Global,
     text: &mut String,
     place: u64,

@@ -23,7 +23,7 @@ pub(crate) struct PlacedNotes<'a> {
 }
 
 /// The offset as received of a note's attribute.
-fn placed_at(shifts: &PathShifts, at: u16) -> u64
+pub(crate) fn placed_at(shifts: &PathShifts, at: u16) -> u64
     ensures { result ≡ placed_at (shifted shifts.now) at }
 {
     if at == 0 {

@@ -1,7 +1,8 @@
 //! What is reported at each field of a message: a mark, and what is wrong there.
 
 ghost use Rattle.std.specs.Prelude.{◌≡◌, ◌∷◌, List, Some};
-ghost use Rattle.bgp_text.specs.Below.{Field as FieldValue, notes_left, fields_left};
+ghost use Rattle.bgp_text.specs.Below.{Field as FieldValue, fields_left};
+ghost use Rattle.bgp_text.specs.NoteRow.{row_left};
 ghost use Rattle.bgp_text.specs.JsonFields.{faulty_field};
 ghost use Rattle.bgp_text.specs.steps.Rows.{noting_fields, noting_left, plain_field, row_of};
 
@@ -51,7 +52,7 @@ impl<'a> Noting<'a> {
         match note_at(self.next, message, field) {
             Some(note) => {
                 self.place = note_place(&note);
-                self.next = self.later.next();
+                self.next = self.later.step();
                 Told {
                     field: *field,
                     marked,
@@ -74,7 +75,7 @@ pub(crate) fn behind_fields<'a>(
     noting: Noting<'a>,
     fields: FieldIter<'_>,
 ) -> Noting<'a>
-    ensures { row_of result.next (notes_left result.later) ≡ noting_left message.now noting.entry (fields_left fields.entry) }
+    ensures { row_of result.next (row_left result.later) ≡ noting_left message.now noting.entry (fields_left fields.entry) }
 {
     let mut noting = noting;
     let mut left = fields;

@@ -345,6 +345,7 @@ ristulva_status ristulva_notes(const ristulva_context *context, const uint8_t *o
 #define RISTULVA_FIELD_DATA 43u              /* a NOTIFICATION's data */
 #define RISTULVA_FIELD_UNREAD 44u            /* octets that can't be read as what should be there, up to the end of what encloses them */
 #define RISTULVA_FIELD_SUBTYPE 45u           /* a ROUTE-REFRESH's Message Subtype: one octet (RFC 7313, section 3.2); ristulva_fields has none */
+#define RISTULVA_FIELD_PATH_IDENTIFIER 46u   /* the path identifier before a prefix: four octets (RFC 7911, section 3); ristulva_fields has none */
 
 /* A field: octets of a message with one meaning. Each octet is in exactly one of them, whatever the message is. */
 typedef struct {

@@ -50,3 +50,4 @@ kind_back field.ErrorSubcode = refl
 kind_back field.Data = refl
 kind_back field.Unread = refl
 kind_back field.Subtype = refl
+kind_back field.PathIdentifier = refl

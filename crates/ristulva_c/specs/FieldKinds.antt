@@ -53,6 +53,7 @@ number_of_kind field.ErrorSubcode = 42
 number_of_kind field.Data = 43
 number_of_kind field.Unread = 44
 number_of_kind field.Subtype = 45
+number_of_kind field.PathIdentifier = 46
 
 -- the meaning of a number in rows of numbers: that of its first row, nothing where it has no row
 abbrev pub kind_in : List (ℕ × FieldKind) → ℕ → Option FieldKind
@@ -107,7 +108,8 @@ kind_of number = kind_in (
     (43, field.Data) ∷ (
     (44, field.Unread) ∷ (
     (45, field.Subtype) ∷ (
-    [])))))))))))))))))))))))))))))))))))))))))))))) number
+    (46, field.PathIdentifier) ∷ (
+    []))))))))))))))))))))))))))))))))))))))))))))))) number
 
 -- the name of the kind of a number is written, where it has one
 abbrev pub Names : ℕ → Writing → Type 0

@@ -59,6 +59,7 @@ pub(crate) fn number_of_kind(kind: FieldKind) -> u8
         FieldKind::Data => 43,
         FieldKind::Unread => 44,
         FieldKind::Subtype => 45,
+        FieldKind::PathIdentifier => 46,
     }
 }
 
@@ -113,6 +114,7 @@ fn kind_of(number: u32) -> Option<FieldKind>
         43 => Some(FieldKind::Data),
         44 => Some(FieldKind::Unread),
         45 => Some(FieldKind::Subtype),
+        46 => Some(FieldKind::PathIdentifier),
         _ => None,
     }
 }

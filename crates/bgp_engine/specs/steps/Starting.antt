@@ -1,5 +1,5 @@
 -- Steps of an engine that handles the first message of its stream by a separate rule.
-use Rattle.std.specs.Prelude.{◌≡◌, ◌⊎◌, ◌-◌, ◌^◌, ℕ, Bool, List, [], ◌++◌, length, Option, None, Some, option_map, Result, Ok, Err}
+use Rattle.std.specs.Prelude.{◌≡◌, ◌⊎◌, ◌-◌, ◌^◌, ℕ, List, [], ◌++◌, length, Option, None, Some, option_map, Result, Ok, Err}
 use Rattle.bgp_frame.specs.declared.kind.WideKind.{WideKind}
 use Rattle.bgp_engine.specs.Below.{Agreed, AreOctets, Kind, Message, Refreshes, Waits}
 use Rattle.bgp_frame.specs.declared.end.End.TheVariants as end

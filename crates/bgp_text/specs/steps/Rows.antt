@@ -1,6 +1,7 @@
 -- A row whose first value was removed, the lines of fields by such a row of notes, and octets that are printed piece by piece.
 use Rattle.std.specs.Prelude.{◌≡◌, ◌<◌, ℕ, Bool, false, List, [], ◌∷◌, ◌++◌, length, Option, None, Some, if◌then◌else◌}
-use Rattle.bgp_text.specs.Below.{notes_left, Note, Field}
+use Rattle.bgp_text.specs.Below.{Note, Field}
+use Rattle.bgp_text.specs.NoteRow.{row_left}
 use Rattle.bgp_text.specs.declared.field_lines.Noting.{Noting}
 use Rattle.bgp_text.specs.declared.told.Told.{Told}
 use Rattle.bgp_text.specs.declared.told.Wrong.{Wrong}
@@ -24,15 +25,15 @@ is_next (Some n) f = is_of n f
 
 -- the lines of the fields that are left
 abbrev pub noting_lines : List ℕ → Noting → List Field → List ℕ
-noting_lines message noting fields = noted_lines message noting.place (row_of noting.next (notes_left noting.later)) fields
+noting_lines message noting fields = noted_lines message noting.place (row_of noting.next (row_left noting.later)) fields
 
 -- what is reported at them
 abbrev pub noting_fields : List ℕ → Noting → List Field → List Told
-noting_fields message noting fields = noted_fields message noting.place (row_of noting.next (notes_left noting.later)) fields
+noting_fields message noting fields = noted_fields message noting.place (row_of noting.next (row_left noting.later)) fields
 
 -- the notes that are reported at none of them
 abbrev pub noting_left : List ℕ → Noting → List Field → List Note
-noting_left message noting fields = unplaced_notes message (row_of noting.next (notes_left noting.later)) fields
+noting_left message noting fields = unplaced_notes message (row_of noting.next (row_left noting.later)) fields
 
 -- what is reported at a field of a message without notes
 abbrev pub plain_field : Field → Told

@@ -1,5 +1,5 @@
-use Rattle.bgp_fields.proofs.Prelude.{ℕ, ◌+◌, [], ◌++◌, length, map, drop, None, refl, sym, ap, ◌∙◌, arith, length-map, append-nil, value_fields}
-use Rattle.bgp_fields.proofs.Prelude.{section_fields, message_fields, fields_left}
+use Rattle.bgp_fields.proofs.Prelude.{ℕ, ◌+◌, [], ◌++◌, length, map, drop, None, refl, sym, ap, ◌∙◌, arith, length-map, append-nil, value_fields_in}
+use Rattle.bgp_fields.proofs.Prelude.{section_fields_in, message_fields_in, fields_left}
 use Rattle.bgp_fields.proofs.Listings.{listing, more, all_listed}
 use Rattle.bgp_fields.proofs.iter.FieldIter.list.Goals as goal
 
@@ -10,9 +10,9 @@ returns-clause-list g c =
     let places = c.args.list.now in
     let all = fields_left it in
     let section_at = it.at + length it.value_octets.now in
-    let value = value_fields it.ctx it.value it.at it.value_group it.value_octets.now in
-    let section = section_fields it.ctx it.section section_at it.section_group it.section_octets.now in
-    let message = message_fields it.ctx it.message (section_at + length it.section_octets.now) None it.message_octets.now in
+    let value = value_fields_in it.reading it.value it.at it.value_group it.value_octets.now in
+    let section = section_fields_in it.reading it.section section_at it.section_group it.section_octets.now in
+    let message = message_fields_in it.reading it.message (section_at + length it.section_octets.now) None it.message_octets.now in
     let valued = more g.row.T.Denot told all all (section ++ message) value 0 0 c.list_value-taken.result places places c.list_value-taken.new.list
     (listing g.row.T.Denot told all 0 places (omega (arith, c.requires))) refl c.list_value-taken.ensures.count c.list_value-taken.ensures.list in
     let sectioned = more g.row.T.Denot told all (section ++ message) message section 0 c.list_value-taken.result c.list_section-taken.result places c.list_value-taken.new.list c.list_section-taken.new.list
