@@ -69,9 +69,9 @@ def refresh_flag(sender, receiver):
     return "--enhanced-refresh" if all((ENHANCED_REFRESH, b"") in said.capabilities for said in (sender, receiver)) else "--refresh"
 
 
-def flags_of(context, refresh=""):
-    """The flags of a context, and that of a direction's ROUTE-REFRESHes."""
-    return f"{streams.flags_of(context.wide, context.ip4, context.ip6, context.internal)} {refresh}".strip()
+def flags_of(context, *more):
+    """The flags of a context, and those of a direction, as of its ROUTE-REFRESHes."""
+    return " ".join(it for it in (streams.flags_of(context.wide, context.ip4, context.ip6, context.internal), *more) if it)
 
 
 def faults(objects):
@@ -130,18 +130,24 @@ def path_identifier_families(said, bit):
     return found
 
 
-def has_path_identifiers(sender, receiver):
-    """Whether both agree on path identifiers in what the first one sends, of a family that is read."""
+def agreed_paths(sender, receiver):
+    """The families that are read for which both agree on path identifiers in what the first one sends."""
     if sender is None or receiver is None:
-        return False
+        return set()
     families = {IP4_UNICAST} | (sender.families & receiver.families & {IP6_UNICAST})
-    return bool(families & path_identifier_families(sender, 2) & path_identifier_families(receiver, 1))
+    return families & path_identifier_families(sender, 2) & path_identifier_families(receiver, 1)
+
+
+def paths_flag(sender, receiver):
+    """The flag by which `show` and `check` read the path identifiers of what the first one sends: none where there are none."""
+    families = agreed_paths(sender, receiver)
+    names = [name for name, family in (("ip4", IP4_UNICAST), ("ip6", IP6_UNICAST)) if family in families]
+    return f"--paths {','.join(names)}" if names else ""
 
 
 def opens_of(sent, received):
-    """The OPENs by which the messages of the first list are read, where both agree on path identifiers in these, which no flag says: else none."""
-    has_paths = has_path_identifiers(said_in(sent), said_in(received))
-    return streams.Opens(sent[0].octets, received[0].octets) if has_paths else None
+    """The OPENs by which the messages of the first list are read, where both agree on path identifiers in these: else none."""
+    return streams.Opens(sent[0].octets, received[0].octets) if agreed_paths(said_in(sent), said_in(received)) else None
 
 
 def may_agree(sender, receiver, code, size):

@@ -74,6 +74,15 @@ def read_cases(files="*.txt"):
     return found
 
 
+def names_in(flags):
+    """The names of flags; those of `--paths` are paths4 and paths6."""
+    words, found = iter(flags), set()
+    for word in words:
+        name, _, value = word.removeprefix("--").partition("=")
+        found |= {f"paths{family.removeprefix('ip')}" for family in (value or next(words)).split(",")} if name == "paths" else {name}
+    return found
+
+
 def altered(case):
     """The case with each line altered in its last letter, and without each line."""
     for at, line in enumerate(case.want):

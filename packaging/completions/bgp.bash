@@ -7,15 +7,15 @@ _bgp() {
     [ "$word" != = ] || word=""
     case "$before" in
         *[\<\>] | --opens) files=yes ;;
-        --drop | --pass) return ;;
+        --drop | --pass | --paths) return ;;
         *)
             if [ "$COMP_CWORD" = 1 ]; then
                 words='show explain check narrow clean to-hex from-hex loop help -h --help -V --version'
             else
                 case "${COMP_WORDS[1]}" in
-                    show) words='--hex --as4 --ip4 --ip6 --internal --refresh --enhanced-refresh --opens --only-faults --json -h --help' ;;
+                    show) words='--hex --as4 --ip4 --ip6 --internal --refresh --enhanced-refresh --paths --opens --only-faults --json -h --help' ;;
                     explain) words='--hex --as4 --ip4 --ip6 --internal --refresh --enhanced-refresh --opens --only-faults --json -h --help' ;;
-                    check) words='--hex --as4 --ip4 --ip6 --internal --refresh --enhanced-refresh --opens -h --help' ;;
+                    check) words='--hex --as4 --ip4 --ip6 --internal --refresh --enhanced-refresh --paths --opens -h --help' ;;
                     narrow) words='--ip4 --ip6 --internal --refresh --enhanced-refresh --opens -h --help' ;;
                     clean) words='--hex --as4 --ip4 --ip6 --internal --refresh --enhanced-refresh --opens --drop --drop-unknown --pass -h --help' ;;
                     to-hex) words='--refresh -h --help' ;;

@@ -1,2 +1,1 @@
 pub mod WideRequests
-pub mod Flags

@@ -6,14 +6,14 @@ use Rattle.bgp_wire.specs.declared.octet_set.OctetSet.{OctetSet}
 use Rattle.bgp_words.specs.declared.request.Asked.{Asked}
 use Rattle.bgp_words.specs.declared.request.Request.{Request}
 use Rattle.bgp_words.specs.declared.request.Request.TheVariants.{Narrow}
-use Rattle.bgp_words.specs.CommandLine.{Asks, AsksFor, bgp_command, context_of, file_in, refreshes_of, request_by, session_by}
+use Rattle.bgp_words.specs.CommandLine.{Asks, AsksFor, bgp_command, file_in, flag_terms_of, request_by, session_by}
 use Rattle.bgp.specs.Command.{IsWide}
 
 either : (b : Bool) (x y : Request) → IsWide x → IsWide y → IsWide (cond b x y)
 either true x y first second = first
 either false x y first second = second
 
-narrow : (file : Option Text) (rows : List Row) → IsWide (Narrow (session_by file (context_of true rows) (refreshes_of rows)))
+narrow : (file : Option Text) (rows : List Row) → IsWide (Narrow (session_by file (flag_terms_of true rows)))
 narrow None rows = refl
 narrow (Some file) rows = tt
 

@@ -1,5 +1,5 @@
 -- What the program does with its command line.
-use Rattle.std.specs.Prelude.{◌≡◌, ◌≢◌, ◌⊎◌, ℕ, Bool, true, false, List, [], Option, Result, Err, if◌then◌else◌}
+use Rattle.std.specs.Prelude.{◌≡◌, ◌≢◌, ◌⊎◌, ℕ, Bool, true, false, not, ◌&&◌, ◌||◌, List, [], Option, Result, Err, if◌then◌else◌}
 use Rattle.std.specs.Io.KnownBytes.{Keeps}
 use Rattle.clap.specs.Words.{IsAmong, Text}
 use Rattle.clap.specs.declared.error.kind.ErrorKind.{ErrorKind}
@@ -20,6 +20,7 @@ use Rattle.bgp_engine.specs.declared.printing.Style.TheVariants as style
 use Rattle.bgp_engine.specs.Check.{Checked}
 use Rattle.bgp_engine.specs.FromHex.{Copied}
 use Rattle.bgp_engine.specs.Narrow.{Narrowed}
+use Rattle.bgp_words.specs.declared.request.FlagTerms.{FlagTerms}
 use Rattle.bgp_words.specs.declared.request.Request.{Request}
 use Rattle.bgp_words.specs.declared.request.Request.TheVariants.{Show, Explain, Check, Narrow, Clean, ToHex, FromHex, Loop}
 use Rattle.bgp_words.specs.declared.request.Session.{Session}
@@ -65,15 +66,22 @@ fields_style_of json = if json then style.ExplainedJson else style.Explained
 abbrev pub cleaned_by : OctetSet → List ℕ → Reports
 cleaned_by drops theirs = CleanedBy theirs (has_octet drops) no_limits
 
--- a context, and ROUTE-REFRESH as the reader accepts it
-abbrev pub flag_terms : Context → Refreshes → Agreed
-flag_terms ctx accepted = record (plain_terms ctx) { refresh = accepted }
+-- a context, ROUTE-REFRESH as the reader accepts it, and whose routes have path identifiers
+abbrev pub flag_terms : FlagTerms → Agreed
+flag_terms f = record (plain_terms f.context) { refresh = f.refresh; paths4 = f.paths.ip4; paths6 = f.paths.ip6 }
 
--- the reports of the flags: in the context, or with ROUTE-REFRESH where that is offered
-abbrev pub by_flags : (Context → Reports) → (Agreed → Reports) → Context → Refreshes → Reports
-by_flags plain under ctx refreshes.None = plain ctx
-by_flags plain under ctx refreshes.Plain = under (flag_terms ctx refreshes.Plain)
-by_flags plain under ctx refreshes.Enhanced = under (flag_terms ctx refreshes.Enhanced)
+abbrev pub has_refresh : Refreshes → Bool
+has_refresh refreshes.None = false
+has_refresh refreshes.Plain = true
+has_refresh refreshes.Enhanced = true
+
+-- the flags say no more than a context
+abbrev pub are_plain : FlagTerms → Bool
+are_plain f = not (has_refresh f.refresh || (f.paths.ip4 || f.paths.ip6))
+
+-- the reports of the flags: in the context, or where ROUTE-REFRESH is offered or routes have path identifiers, in these terms
+abbrev pub by_flags : (Context → Reports) → (Agreed → Reports) → FlagTerms → Reports
+by_flags plain under f = if are_plain f then plain f.context else under (flag_terms f)
 
 abbrev pub cleaned_in : OctetSet → Context → Reports
 cleaned_in drops ctx = CleanedIn ctx (has_octet drops) no_limits
@@ -83,18 +91,18 @@ cleaned_under drops terms = CleanedUnder terms (has_octet drops) no_limits
 
 -- messages were printed in a style, by the flags or by what both OPENs agree on
 abbrev pub Prints : Session → Style → Bool → Bool → Io → Result Tally ToolFault → Type 0
-Prints (Flags ctx accepted) style only_faults hex io outcome = engine.Answers (by_flags (Printed style only_faults) (PrintedUnder style only_faults) ctx accepted) hex io outcome
+Prints (Flags f) style only_faults hex io outcome = engine.Answers (by_flags (Printed style only_faults) (PrintedUnder style only_faults) f) hex io outcome
 Prints Opens style only_faults hex io outcome = RunsBy (PrintedBy style only_faults) hex io outcome
 
 -- the engine of a request ran, with this outcome: which one, and whether it read hexadecimal text
 abbrev pub Runs : Request → Io → Result Tally ToolFault → Type 0
 Runs (Show session hex json only_faults) io outcome = Prints session (style_of json) only_faults hex io outcome
 Runs (Explain session hex json only_faults) io outcome = Prints session (fields_style_of json) only_faults hex io outcome
-Runs (Check (Flags ctx accepted) hex) io outcome = engine.Answers (by_flags Checked CheckedUnder ctx accepted) hex io outcome
+Runs (Check (Flags f) hex) io outcome = engine.Answers (by_flags Checked CheckedUnder f) hex io outcome
 Runs (Check Opens hex) io outcome = RunsBy CheckedBy hex io outcome
-Runs (Narrow (Flags ctx accepted)) io outcome = engine.Answers (by_flags Narrowed NarrowedUnder ctx accepted) false io outcome
+Runs (Narrow (Flags f)) io outcome = engine.Answers (by_flags Narrowed NarrowedUnder f) false io outcome
 Runs (Narrow Opens) io outcome = RunsBy NarrowedBy false io outcome
-Runs (Clean (Flags ctx accepted) hex drops) io outcome = engine.Answers (by_flags (cleaned_in drops) (cleaned_under drops) ctx accepted) hex io (without_words outcome)
+Runs (Clean (Flags f) hex drops) io outcome = engine.Answers (by_flags (cleaned_in drops) (cleaned_under drops) f) hex io (without_words outcome)
 Runs (Clean Opens hex drops) io outcome = RunsBy (cleaned_by drops) hex io (without_words outcome)
 Runs (ToHex false) io outcome = engine.Answers Hexed false io outcome
 Runs (ToHex true) io outcome = engine.Answers (HexedWith refreshes.Plain) false io outcome
@@ -110,7 +118,7 @@ pub record HasRun (request : Request) (io : Io) (answer : ℕ) : Type 0 where
 
 -- what is narrowed has 4-octet AS numbers
 abbrev pub IsWide : Request → Type 0
-IsWide (Narrow (Flags ctx accepted)) = ctx.as4 ≡ true
+IsWide (Narrow (Flags f)) = f.context.as4 ≡ true
 IsWide _ = Unit {0}
 
 -- The words ask for an engine. It ran, as the outcome says, and the answer is its status.

@@ -2,7 +2,8 @@
 
 ghost use Rattle.std.specs.Prelude.{◌≡◌, false, map, true};
 ghost use Rattle.clap.specs.Words.{kind_of};
-ghost use Rattle.bgp.specs.Command.{Answers, HasRun, IsExplained, IsQuiet, IsWide, Runs, RunsBy, Prints, by_flags, cleaned_by, cleaned_in, cleaned_under, fields_style_of, style_of};
+ghost use Rattle.bgp.specs.Command.{Answers, HasRun, IsExplained, IsQuiet, IsWide, Runs, RunsBy, Prints, are_plain, by_flags, cleaned_by, cleaned_in, cleaned_under, fields_style_of, flag_terms, style_of};
+ghost use Rattle.bgp_terms.specs.Prelude.{wide_terms};
 ghost use Rattle.bgp_engine.specs.Prelude.{Printed, PrintedBy, PrintedUnder, without_words, CheckedBy, CheckedUnder, NarrowedBy, NarrowedUnder, io};
 ghost use Rattle.bgp_engine.specs.Check.{Checked};
 ghost use Rattle.bgp_engine.specs.Narrow.{Narrowed};
@@ -16,10 +17,9 @@ use bgp_engine::{
     print_under, status, to_hex, to_hex_with,
 };
 use bgp_loop::{read_file, run_file, trace_file};
-use bgp_open::Context;
 use bgp_terms::{Refreshes, WideTerms};
 use bgp_wire::OctetSet;
-use bgp_words::{Asked, Request, Session, parse};
+use bgp_words::{Asked, FlagTerms, Request, Session, parse};
 use clap::Error;
 use clap::error::ErrorKind;
 use std::alloc::Global;
@@ -97,87 +97,113 @@ fn print_opened<H: Files, R: Read, W: Write>(
     }
 }
 
+// Whether the flags say no more than a context.
+fn are_plain(flags: &FlagTerms) -> bool
+    ensures { result ≡ are_plain flags.now }
+{
+    let has_refresh = match flags.refresh {
+        Refreshes::None => false,
+        Refreshes::Plain | Refreshes::Enhanced => true,
+    };
+    !(has_refresh || flags.paths.ip4 || flags.paths.ip6)
+}
+
+// What the flags say, as terms.
+fn terms_of(flags: &FlagTerms) -> WideTerms
+    ensures { wide_terms result ≡ flag_terms flags.now }
+{
+    WideTerms {
+        paths4: flags.paths.ip4,
+        paths6: flags.paths.ip6,
+        ..WideTerms::with_refresh(flags.context, flags.refresh)
+    }
+}
+
 // Prints by the flags.
 fn print_flagged<R: Read, W: Write>(
     alloc: Global,
     style: Style,
     only_faults: bool,
-    ctx: &Context,
-    refreshes: Refreshes,
+    flags: &FlagTerms,
     hex: bool,
     input: &mut R,
     output: &mut W,
 ) -> Result<Tally, ToolFault>
-    ensures { engine.Answers (by_flags (Printed style only_faults) (PrintedUnder style only_faults) ctx.now refreshes) hex (io R.remaining input.old input.new W.contents output.old output.new) result }
+    ensures { engine.Answers (by_flags (Printed style only_faults) (PrintedUnder style only_faults) flags.now) hex (io R.remaining input.old input.new W.contents output.old output.new) result }
 {
-    match refreshes {
-        Refreshes::None => print(alloc, style, only_faults, ctx, hex, input, output),
-        Refreshes::Plain | Refreshes::Enhanced => {
-            let terms = WideTerms::with_refresh(*ctx, refreshes);
-            print_under(alloc, style, only_faults, &terms, hex, input, output)
-        }
+    if are_plain(flags) {
+        return print(
+            alloc,
+            style,
+            only_faults,
+            &flags.context,
+            hex,
+            input,
+            output,
+        );
     }
+    let terms = terms_of(flags);
+    print_under(alloc, style, only_faults, &terms, hex, input, output)
 }
 
 // Checks by the flags.
 fn check_flagged<R: Read, W: Write>(
     alloc: Global,
-    ctx: &Context,
-    refreshes: Refreshes,
+    flags: &FlagTerms,
     hex: bool,
     input: &mut R,
     output: &mut W,
 ) -> Result<Tally, ToolFault>
-    ensures { engine.Answers (by_flags Checked CheckedUnder ctx.now refreshes) hex (io R.remaining input.old input.new W.contents output.old output.new) result }
+    ensures { engine.Answers (by_flags Checked CheckedUnder flags.now) hex (io R.remaining input.old input.new W.contents output.old output.new) result }
 {
-    match refreshes {
-        Refreshes::None => check(alloc, ctx, hex, input, output),
-        Refreshes::Plain | Refreshes::Enhanced => {
-            let terms = WideTerms::with_refresh(*ctx, refreshes);
-            check_under(alloc, &terms, hex, input, output)
-        }
+    if are_plain(flags) {
+        return check(alloc, &flags.context, hex, input, output);
     }
+    let terms = terms_of(flags);
+    check_under(alloc, &terms, hex, input, output)
 }
 
 // Narrows by the flags.
 fn narrow_flagged<R: Read, W: Write>(
     alloc: Global,
-    ctx: &Context,
-    refreshes: Refreshes,
+    flags: &FlagTerms,
     input: &mut R,
     output: &mut W,
 ) -> Result<Tally, ToolFault>
-    requires { ctx.now.as4 ≡ true }
-    ensures { engine.Answers (by_flags Narrowed NarrowedUnder ctx.now refreshes) false (io R.remaining input.old input.new W.contents output.old output.new) result }
+    requires { flags.now.context.as4 ≡ true }
+    ensures { engine.Answers (by_flags Narrowed NarrowedUnder flags.now) false (io R.remaining input.old input.new W.contents output.old output.new) result }
 {
-    match refreshes {
-        Refreshes::None => narrow_stream(alloc, ctx, input, output),
-        Refreshes::Plain | Refreshes::Enhanced => {
-            let terms = WideTerms::with_refresh(*ctx, refreshes);
-            narrow_under(alloc, &terms, input, output)
-        }
+    if are_plain(flags) {
+        return narrow_stream(alloc, &flags.context, input, output);
     }
+    let terms = terms_of(flags);
+    narrow_under(alloc, &terms, input, output)
 }
 
 // Cleans by the flags.
 fn clean_flagged<R: Read, W: Write>(
     alloc: Global,
-    ctx: &Context,
-    refreshes: Refreshes,
+    flags: &FlagTerms,
     drops: &OctetSet,
     hex: bool,
     input: &mut R,
     output: &mut W,
 ) -> Result<Tally, ToolFault>
-    ensures { engine.Answers (by_flags (cleaned_in drops.now) (cleaned_under drops.now) ctx.now refreshes) hex (io R.remaining input.old input.new W.contents output.old output.new) (without_words result) }
+    ensures { engine.Answers (by_flags (cleaned_in drops.now) (cleaned_under drops.now) flags.now) hex (io R.remaining input.old input.new W.contents output.old output.new) (without_words result) }
 {
-    match refreshes {
-        Refreshes::None => clean_stream(alloc, ctx, drops, &Limits::none(), hex, input, output),
-        Refreshes::Plain | Refreshes::Enhanced => {
-            let terms = WideTerms::with_refresh(*ctx, refreshes);
-            clean_under(alloc, &terms, drops, &Limits::none(), hex, input, output)
-        }
+    if are_plain(flags) {
+        return clean_stream(
+            alloc,
+            &flags.context,
+            drops,
+            &Limits::none(),
+            hex,
+            input,
+            output,
+        );
     }
+    let terms = terms_of(flags);
+    clean_under(alloc, &terms, drops, &Limits::none(), hex, input, output)
 }
 
 // Prints messages in a style.
@@ -195,17 +221,8 @@ fn print_messages<H: Files, R: Read, W: Write>(
     ensures { Prints session style only_faults hex (io R.remaining input.old input.new W.contents output.old output.new) result }
 {
     match session {
-        Session::Flags(ctx, refreshes) => {
-            print_flagged(
-                alloc,
-                style,
-                only_faults,
-                &ctx,
-                refreshes,
-                hex,
-                input,
-                output,
-            )
+        Session::Flags(flags) => {
+            print_flagged(alloc, style, only_faults, &flags, hex, input, output)
         }
         Session::Opens => { print_opened(rt, alloc, file, style, only_faults, hex, input, output) }
     }
@@ -307,13 +324,11 @@ fn run<H: Files + Net, R: Read, W: Write>(
             output,
         ),
         Request::Check { session, hex } => match session {
-            Session::Flags(ctx, refreshes) => check_flagged(
-                alloc, &ctx, refreshes, hex, input, output,
-            ),
+            Session::Flags(flags) => check_flagged(alloc, &flags, hex, input, output),
             Session::Opens => check_opened(rt, alloc, asked.file, hex, input, output),
         },
         Request::Narrow { session } => match session {
-            Session::Flags(ctx, refreshes) => narrow_flagged(alloc, &ctx, refreshes, input, output),
+            Session::Flags(flags) => narrow_flagged(alloc, &flags, input, output),
             Session::Opens => narrow_opened(rt, alloc, asked.file, input, output),
         },
         Request::Clean {
@@ -321,9 +336,7 @@ fn run<H: Files + Net, R: Read, W: Write>(
             hex,
             drops,
         } => match session {
-            Session::Flags(ctx, refreshes) => {
-                clean_flagged(alloc, &ctx, refreshes, &drops, hex, input, output)
-            }
+            Session::Flags(flags) => clean_flagged(alloc, &flags, &drops, hex, input, output),
             Session::Opens => clean_opened(rt, alloc, asked.file, &drops, hex, input, output),
         },
         Request::ToHex { refresh } if refresh => {

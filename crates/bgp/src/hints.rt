@@ -299,9 +299,9 @@ fn tell_opens<H: Files, E: Write>(
     octets: &[u8],
 ) {
     match session_of(&asked.request) {
-        Some(Session::Flags(ctx, _)) => {
+        Some(Session::Flags(flags)) => {
             if let Some(peer) = speaker_of(octets) {
-                tell_offer(errors, &ctx, &peer);
+                tell_offer(errors, &flags.context, &peer);
             }
         }
         Some(Session::Opens) => tell_same(rt, alloc, errors, asked.file, octets),

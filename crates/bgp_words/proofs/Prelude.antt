@@ -8,6 +8,6 @@ pub use Rattle.clap.specs.declared.builder.command.Command.TheViews.{out-Command
 unfoldable pub use Rattle.clap.proofs.OnLiterals.{clap_on_literals}
 pub use Rattle.bgp_wire.specs.Prelude.{also, has_octet, none_of_them, when, ◌>>=◌}
 pub use Rattle.bgp_attr.specs.Prelude.{has_entry, is_recognised}
-pub use Rattle.bgp_words.specs.CommandLine.{Asks, IsAsked, bgp_command, context_of, drops_by, file_in, first_file, first_kinds, is_set, is_true, kinds_of, refreshes_of, request_by, session_by, text_or_empty, types_in, with_flag, with_option, with_refreshes}
+pub use Rattle.bgp_words.specs.CommandLine.{Asks, IsAsked, bgp_command, drops_by, file_in, first_file, first_kinds, flag_terms_of, is_set, is_true, kinds_of, request_by, session_by, text_or_empty, types_in, with_families, with_flag, with_opens, with_option, with_paths, with_refreshes}
 pub use Rattle.bgp_words.specs.TypeList.{all_but, is_other, octet_of, type_of, types_behind, types_of, words_of}
 pub use Rattle.bgp_words.specs.Hints.{are_all, is_digit_or_space, is_printed, spot_behind}

@@ -9,10 +9,13 @@ use Rattle.bgp_wire.specs.declared.octet_set.OctetSet.{OctetSet}
 use Rattle.bgp_open.specs.declared.context.Context.{Context}
 use Rattle.bgp_terms.specs.declared.refreshes.Refreshes.{Refreshes}
 use Rattle.bgp_terms.specs.declared.refreshes.Refreshes.TheVariants as refreshes
+use Rattle.bgp_words.specs.declared.path_list.PathFlags.{PathFlags}
+use Rattle.bgp_words.specs.declared.request.FlagTerms.{FlagTerms}
 use Rattle.bgp_words.specs.declared.request.Request.{Request}
 use Rattle.bgp_words.specs.declared.request.Request.TheVariants.{Show, Explain, Check, Narrow, Clean, ToHex, FromHex, Loop}
 use Rattle.bgp_words.specs.declared.request.Session.{Session}
 use Rattle.bgp_words.specs.declared.request.Session.TheVariants.{Flags, Opens}
+use Rattle.bgp_words.specs.PathList.{are_families, names_ip4, names_ip6}
 use Rattle.bgp_words.specs.TypeList.{all_but, types_of}
 
 -- ---- the command line: eight commands, seven of them with flags
@@ -42,13 +45,29 @@ with_refresh a = with_flag a (codes "refresh")
 abbrev pub with_refreshes : App → App
 with_refreshes a = with_flag (with_refresh a) (codes "enhanced-refresh")
 
--- these, or the file with the octets of the other direction
-abbrev pub with_session : App → App
-with_session a = with_option (with_refreshes (with_families a)) (codes "opens")
+-- whose routes have path identifiers (RFC 7911)
+abbrev pub with_paths : App → App
+with_paths a = with_option a (codes "paths")
 
--- the flags of a command that shows or checks
+-- the file with the octets of the other direction
+abbrev pub with_opens : App → App
+with_opens a = with_option a (codes "opens")
+
+-- the flags of a session, or that file
+abbrev pub with_session : App → App
+with_session a = with_opens (with_refreshes (with_families a))
+
+-- the form of input, and AS numbers of four octets
+abbrev pub with_input : App → App
+with_input a = with_flag (with_flag a (codes "hex")) (codes "as4")
+
+-- the flags of a command that judges messages
 abbrev pub with_judging : App → App
-with_judging a = with_session (with_flag (with_flag a (codes "hex")) (codes "as4"))
+with_judging a = with_session (with_input a)
+
+-- the flags of one that reads path identifiers
+abbrev pub with_reading : App → App
+with_reading a = with_opens (with_paths (with_refreshes (with_families (with_input a))))
 
 -- the attributes that are left out: by type, or all unrecognised ones except those that pass
 abbrev pub with_dropping : App → App
@@ -76,19 +95,22 @@ bare_command = with_settings (new_app (codes "bgp"))
 
 -- a command that prints messages can leave out those accepted without a note, other than NOTIFICATIONs; and can print JSON
 abbrev pub with_printing : App → App
-with_printing a = with_flag (with_flag (with_judging a) (codes "only-faults")) (codes "json")
+with_printing a = with_flag (with_flag a (codes "only-faults")) (codes "json")
 
 abbrev pub show_command : App
-show_command = with_printing (new_app (codes "show"))
+show_command = with_printing (with_reading (new_app (codes "show")))
 
 abbrev pub explain_command : App
-explain_command = with_printing (new_app (codes "explain"))
+explain_command = with_printing (with_judging (new_app (codes "explain")))
+
+abbrev pub check_command : App
+check_command = with_reading (new_app (codes "check"))
 
 abbrev pub printing_commands : App
 printing_commands = with_command (with_command bare_command show_command) explain_command
 
 abbrev pub judging_commands : App
-judging_commands = with_command printing_commands (with_judging (new_app (codes "check")))
+judging_commands = with_command printing_commands check_command
 
 -- the commands that read a stream
 abbrev pub rewriting_commands : App
@@ -124,13 +146,25 @@ refreshes_of rows =
     if is_set (codes "refresh") rows then refreshes.Plain else
     refreshes.None)
 
+-- the list, if there is one, passes a test
+abbrev pub in_list : (Text → Bool) → Option Text → Bool
+in_list test None = false
+in_list test (Some list) = test list
+
+-- the families whose routes have path identifiers by the flag: none without it
+abbrev pub paths_of : List Row → PathFlags
+paths_of rows = record { ip4 = in_list names_ip4 (first_of (codes "paths") rows); ip6 = in_list names_ip6 (first_of (codes "paths") rows) }
+
+abbrev pub flag_terms_of : Bool → List Row → FlagTerms
+flag_terms_of as4 rows = record { context = context_of as4 rows; refresh = refreshes_of rows; paths = paths_of rows }
+
 -- the session of the flags, unless a file is given for it
-abbrev pub session_by : Option Text → Context → Refreshes → Session
-session_by None ctx accepted = Flags ctx accepted
-session_by (Some file) ctx accepted = Opens
+abbrev pub session_by : Option Text → FlagTerms → Session
+session_by None terms = Flags terms
+session_by (Some file) terms = Opens
 
 abbrev pub session_of : Bool → List Row → Session
-session_of as4 rows = session_by (first_of (codes "opens") rows) (context_of as4 rows) (refreshes_of rows)
+session_of as4 rows = session_by (first_of (codes "opens") rows) (flag_terms_of as4 rows)
 
 abbrev pub judged_in : List Row → Session
 judged_in rows = session_of (is_set (codes "as4") rows) rows
@@ -205,7 +239,7 @@ Asks words (Some asked) = AsksFor words asked.0 asked.1
 abbrev pub has_session_flag : List Row → Bool
 has_session_flag rows =
     is_set (codes "as4") rows || (is_set (codes "ip4") rows || (is_set (codes "ip6") rows || (is_set (codes "internal") rows
-    || (is_set (codes "refresh") rows || is_set (codes "enhanced-refresh") rows))))
+    || (is_set (codes "refresh") rows || (is_set (codes "enhanced-refresh") rows || is_some (first_of (codes "paths") rows))))))
 
 -- the session is given by both OPENs, and by flags too
 abbrev pub is_told_twice : List Row → Bool
@@ -219,13 +253,18 @@ drops_twice rows = is_some (first_of (codes "drop") rows) && is_set (codes "drop
 abbrev pub passes_alone : List Row → Bool
 passes_alone rows = is_some (first_of (codes "pass") rows) && not (is_set (codes "drop-unknown") rows)
 
+-- the list of families is faulty, if there is one
+abbrev pub is_no_list : Option Text → Bool
+is_no_list list = in_list (λ text. not (are_families text)) list
+
 -- the errors of flags that `clap` doesn't find
 abbrev pub kinds_in : List Row → Kinds
 kinds_in rows =
     if is_told_twice rows then error.ArgumentConflict ∷ [] else (
+    if is_no_list (first_of (codes "paths") rows) then error.InvalidValue ∷ [] else (
     if drops_twice rows then error.ArgumentConflict ∷ [] else (
     if passes_alone rows then error.MissingRequiredArgument ∷ [] else (
-    if is_some (drops_in rows) then [] else error.InvalidValue ∷ [])))
+    if is_some (drops_in rows) then [] else error.InvalidValue ∷ []))))
 
 abbrev pub kinds_of : Option (Text × List Row) → Kinds
 kinds_of None = []

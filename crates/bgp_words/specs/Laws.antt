@@ -5,6 +5,7 @@ use Rattle.bgp_attr.specs.Prelude.{is_recognised}
 use Rattle.bgp_wire.specs.Prelude.{none_of_them}
 use Rattle.bgp_wire.specs.declared.octet_set.OctetSet.{OctetSet}
 use Rattle.bgp_open.specs.declared.context.Context.{Context}
+use Rattle.bgp_terms.specs.declared.refreshes.Refreshes.{Refreshes}
 use Rattle.bgp_terms.specs.declared.refreshes.Refreshes.TheVariants as refreshes
 use Rattle.bgp_words.specs.declared.request.Request.{Request}
 use Rattle.bgp_words.specs.declared.request.Request.TheVariants.{Clean}
@@ -31,9 +32,13 @@ pub record CanBeCleaned (words : List Text) (session : Session) (hex : Bool) (fi
 abbrev pub flags : Bool → Bool → Context
 flags as4 others = record { internal = others; as4 = as4; ip4 = others; ip6 = others; hold = 0 }
 
--- and the session
+-- a session by flags: its context, ROUTE-REFRESH as the receiver accepts it, and whether routes of IPv4 and of IPv6 have path identifiers
+abbrev pub session_with : Context → Refreshes → Bool → Bool → Session
+session_with ctx accepted ip4 ip6 = Flags (record { context = ctx; refresh = accepted; paths = record { ip4 = ip4; ip6 = ip6 } })
+
+-- that context with and without ROUTE-REFRESH, without path identifiers
 abbrev pub by_flags : Bool → Bool → Session
-by_flags as4 others = Flags (flags as4 others) (if others then refreshes.Enhanced else refreshes.None)
+by_flags as4 others = session_with (flags as4 others) (if others then refreshes.Enhanced else refreshes.None) false false
 
 -- types that aren't recognised
 abbrev pub AreUnrecognised : (ℕ → Bool) → Type 0

@@ -3,7 +3,7 @@
 ghost use Rattle.std.specs.Prelude.{◌≡◌, codes, false, IfOk};
 ghost use Rattle.clap.specs.Words.{app_of, rule_of, new_app};
 ghost use Rattle.clap.specs.declared.builder.command.Command.TheViews.{out-Command};
-ghost use Rattle.bgp_words.specs.CommandLine.{flag_rule, with_flag, option_rule, with_option, with_families, with_refresh, with_refreshes, with_session, with_judging, with_dropping, clean_command, with_printing, show_command, explain_command, with_command, bare_command, printing_commands, judging_commands, file_rule, loop_command, to_hex_command, stream_commands, bgp_command};
+ghost use Rattle.bgp_words.specs.CommandLine.{flag_rule, with_flag, option_rule, with_option, with_families, with_refresh, with_refreshes, with_paths, with_opens, with_session, with_input, with_judging, with_reading, with_dropping, clean_command, with_printing, show_command, explain_command, check_command, with_command, bare_command, printing_commands, judging_commands, file_rule, loop_command, to_hex_command, stream_commands, bgp_command};
 
 use crate::help::{
     CHECK_HELP, CLEAN_HELP, EXPLAIN_HELP, FROM_HEX_HELP, HELP, LOOP_HELP, NARROW_HELP, SHOW_HELP,
@@ -14,6 +14,9 @@ use std::alloc::{AllocError, Global};
 
 /// The flag that names the file with the octets of the other direction.
 pub(crate) const OPENS: &str = "opens";
+
+/// The flag with the families whose routes have path identifiers.
+pub(crate) const PATHS: &str = "paths";
 
 /// The flag with the types of attributes that are left out.
 pub(crate) const DROP: &str = "drop";
@@ -119,23 +122,46 @@ fn with_refreshes<'a>(alloc: Global, command: Command<'a>) -> Result<Command<'a>
     )
 }
 
-// A command with the flags that give the session.
-fn with_session<'a>(alloc: Global, command: Command<'a>) -> Result<Command<'a>, AllocError>
-    ensures shape { IfOk result (λ c. app_of c ≡ with_session (app_of command.entry)) }
+// A command with the flag for path identifiers.
+fn with_paths<'a>(alloc: Global, command: Command<'a>) -> Result<Command<'a>, AllocError>
+    ensures shape { IfOk result (λ c. app_of c ≡ with_paths (app_of command.entry)) }
     ensures local { IfOk result (λ c. (out-Command c).has_globals ≡ (out-Command command.entry).has_globals) }
 {
     with_option(
         alloc,
-        with_refreshes(alloc, with_families(alloc, command)?)?,
+        command,
+        PATHS,
+        "FAMILIES",
+        "Routes of FAMILIES have path identifiers (RFC 7911)",
+    )
+}
+
+// A command with the flag for the OPENs of both directions.
+fn with_opens<'a>(alloc: Global, command: Command<'a>) -> Result<Command<'a>, AllocError>
+    ensures shape { IfOk result (λ c. app_of c ≡ with_opens (app_of command.entry)) }
+    ensures local { IfOk result (λ c. (out-Command c).has_globals ≡ (out-Command command.entry).has_globals) }
+{
+    with_option(
+        alloc,
+        command,
         OPENS,
         "FILE",
         "Agree by both OPENs: FILE has the other direction",
     )
 }
 
-// A command with the flags of one that shows or checks.
-fn with_judging<'a>(alloc: Global, command: Command<'a>) -> Result<Command<'a>, AllocError>
-    ensures shape { IfOk result (λ c. app_of c ≡ with_judging (app_of command.entry)) }
+// A command with the flags that give the session.
+fn with_session<'a>(alloc: Global, command: Command<'a>) -> Result<Command<'a>, AllocError>
+    ensures shape { IfOk result (λ c. app_of c ≡ with_session (app_of command.entry)) }
+    ensures local { IfOk result (λ c. (out-Command c).has_globals ≡ (out-Command command.entry).has_globals) }
+{
+    let command = with_refreshes(alloc, with_families(alloc, command)?)?;
+    with_opens(alloc, command)
+}
+
+// A command with the flags for the form of input and for AS numbers.
+fn with_input<'a>(alloc: Global, command: Command<'a>) -> Result<Command<'a>, AllocError>
+    ensures shape { IfOk result (λ c. app_of c ≡ with_input (app_of command.entry)) }
     ensures local { IfOk result (λ c. (out-Command c).has_globals ≡ (out-Command command.entry).has_globals) }
 {
     let command = with_flag(
@@ -144,13 +170,31 @@ fn with_judging<'a>(alloc: Global, command: Command<'a>) -> Result<Command<'a>, 
         "hex",
         "Read hexadecimal text instead of octets",
     )?;
-    let command = with_flag(
+    with_flag(
         alloc,
         command,
         "as4",
         "Both speakers use AS numbers of four octets",
-    )?;
+    )
+}
+
+// A command with the flags of one that judges messages.
+fn with_judging<'a>(alloc: Global, command: Command<'a>) -> Result<Command<'a>, AllocError>
+    ensures shape { IfOk result (λ c. app_of c ≡ with_judging (app_of command.entry)) }
+    ensures local { IfOk result (λ c. (out-Command c).has_globals ≡ (out-Command command.entry).has_globals) }
+{
+    let command = with_input(alloc, command)?;
     with_session(alloc, command)
+}
+
+// A command with the flags of one that reads path identifiers.
+fn with_reading<'a>(alloc: Global, command: Command<'a>) -> Result<Command<'a>, AllocError>
+    ensures shape { IfOk result (λ c. app_of c ≡ with_reading (app_of command.entry)) }
+    ensures local { IfOk result (λ c. (out-Command c).has_globals ≡ (out-Command command.entry).has_globals) }
+{
+    let command = with_families(alloc, with_input(alloc, command)?)?;
+    let command = with_paths(alloc, with_refreshes(alloc, command)?)?;
+    with_opens(alloc, command)
 }
 
 // A command with the flags of one that leaves out attributes.
@@ -256,14 +300,14 @@ fn with_command<'a>(command: Command<'a>, sub: Command<'a>) -> Result<Command<'a
     command.subcommand(sub)
 }
 
-// A command with the flags of one that prints messages.
+// A command with the flags that choose messages and the form of what is printed.
 fn with_printing<'a>(alloc: Global, command: Command<'a>) -> Result<Command<'a>, AllocError>
     ensures shape { IfOk result (λ c. app_of c ≡ with_printing (app_of command.entry)) }
     ensures local { IfOk result (λ c. (out-Command c).has_globals ≡ (out-Command command.entry).has_globals) }
 {
     let command = with_flag(
         alloc,
-        with_judging(alloc, command)?,
+        command,
         "only-faults",
         "Print messages with faults or notes, and NOTIFICATIONs",
     )?;
@@ -281,7 +325,7 @@ pub(crate) fn show<'a>(alloc: Global) -> Result<Command<'a>, AllocError>
     ensures local { IfOk result (λ c. (out-Command c).has_globals ≡ false) }
 {
     let show = named(alloc, "show", "Print each message's outcome", SHOW_HELP);
-    with_printing(alloc, show)
+    with_printing(alloc, with_reading(alloc, show)?)
 }
 
 /// The command that explains.
@@ -295,16 +339,16 @@ pub(crate) fn explain<'a>(alloc: Global) -> Result<Command<'a>, AllocError>
         "Print each message's outcome and its fields",
         EXPLAIN_HELP,
     );
-    with_printing(alloc, explain)
+    with_printing(alloc, with_judging(alloc, explain)?)
 }
 
 /// The command that checks.
 pub(crate) fn check<'a>(alloc: Global) -> Result<Command<'a>, AllocError>
-    ensures shape { IfOk result (λ c. app_of c ≡ with_judging (new_app (codes "check"))) }
+    ensures shape { IfOk result (λ c. app_of c ≡ check_command) }
     ensures local { IfOk result (λ c. (out-Command c).has_globals ≡ false) }
 {
     let check = named(alloc, "check", "Count the outcomes", CHECK_HELP);
-    with_judging(alloc, check)
+    with_reading(alloc, check)
 }
 
 /// The command that narrows.
@@ -358,7 +402,7 @@ fn printing<'a>(alloc: Global) -> Result<Command<'a>, AllocError>
 
 // A command with the one that checks.
 fn with_check<'a>(alloc: Global, command: Command<'a>) -> Result<Command<'a>, AllocError>
-    ensures { IfOk result (λ c. app_of c ≡ with_command (app_of command.entry) (with_judging (new_app (codes "check")))) }
+    ensures { IfOk result (λ c. app_of c ≡ with_command (app_of command.entry) check_command) }
 {
     with_command(command, check(alloc)?)
 }

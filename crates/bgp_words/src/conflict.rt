@@ -5,11 +5,14 @@ ghost use Rattle.clap.specs.Words.{found_of, kind_of, rows_of};
 ghost use Rattle.clap.specs.declared.error.kind.ErrorKind.TheVariants as error;
 ghost use Rattle.bgp_words.specs.CommandLine.{has_session_flag};
 
-use crate::commands::judging_command;
-use crate::given::is_set;
+use crate::commands::{PATHS, judging_command};
+use crate::given::{is_set, value_of};
 use clap::error::ErrorKind;
 use clap::{ArgMatches, Error};
 use std::alloc::{AllocError, Global};
+
+/// The flag for path identifiers, with its value.
+const GIVEN_PATHS: &str = "--paths <FAMILIES>";
 
 /// Whether one of the flags is set that both OPENs determine.
 pub(crate) fn has_session_flag(flags: &ArgMatches<'_>) -> bool
@@ -21,6 +24,7 @@ pub(crate) fn has_session_flag(flags: &ArgMatches<'_>) -> bool
         || is_set(flags, "internal")
         || is_set(flags, "refresh")
         || is_set(flags, "enhanced-refresh")
+        || value_of(flags, PATHS).is_some()
 }
 
 // Adds the names of these flags that are set, each on a line of its own. Answers their number, and the last of them.
@@ -53,10 +57,15 @@ fn names(alloc: Global, flags: &ArgMatches<'_>) -> Result<String, AllocError> {
     ];
     let mut lines = String::new(alloc);
     let (count, last) = put_names(&mut lines, flags, &session)?;
-    if count == 1 {
-        return format!(in alloc; " '--{last}'");
+    let has_paths = value_of(flags, PATHS).is_some();
+    if has_paths {
+        write!(lines, "\n  {GIVEN_PATHS}")?;
     }
-    format!(in alloc; ":{lines}")
+    match (count, has_paths) {
+        (0, true) => format!(in alloc; " '{GIVEN_PATHS}'"),
+        (1, false) => format!(in alloc; " '--{last}'"),
+        _ => format!(in alloc; ":{lines}"),
+    }
 }
 
 /// The error of a command with a file for both OPENs and with flags.

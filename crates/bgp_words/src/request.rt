@@ -2,7 +2,7 @@
 
 ghost use Rattle.std.specs.Prelude.{◌≡◌, codes, map, true, Some, option_map, IfOk};
 ghost use Rattle.clap.specs.Words.{FailsBy, first_of, found_of, rows_of};
-ghost use Rattle.bgp_words.specs.CommandLine.{Asks, IsAsked, context_of, faults_of, file_in, is_told_twice, judged_in, kinds_in, refreshes_of, request_by, session_of, text_or_empty};
+ghost use Rattle.bgp_words.specs.CommandLine.{Asks, IsAsked, context_of, faults_of, file_in, flag_terms_of, is_told_twice, judged_in, kinds_in, refreshes_of, request_by, session_of, text_or_empty};
 
 use crate::commands::{FILE, OPENS, bgp};
 use crate::conflict::{conflict, has_session_flag};
@@ -10,17 +10,30 @@ use crate::drops::{
     bad_list, drop_conflict, drops_in, drops_twice, missing_drop_unknown, passes_alone,
 };
 use crate::given::{is_set, value_of};
+use crate::numbered::{bad_families, is_no_list, paths_of};
+use crate::path_list::PathFlags;
 use bgp_open::Context;
 use bgp_terms::Refreshes;
 use bgp_wire::OctetSet;
 use clap::{ArgMatches, Error};
 use std::alloc::Global;
 
+/// What the flags say of a session.
+#[derive(Clone, Copy)]
+pub struct FlagTerms {
+    /// The context.
+    pub context: Context,
+    /// Which ROUTE-REFRESH the receiver accepts.
+    pub refresh: Refreshes,
+    /// Whose routes have path identifiers.
+    pub paths: PathFlags,
+}
+
 /// What gives the context of a session.
 #[derive(Clone, Copy)]
 pub enum Session {
-    /// The flags, which give this context, and which ROUTE-REFRESH the receiver accepts.
-    Flags(Context, Refreshes),
+    /// The flags.
+    Flags(FlagTerms),
     /// The OPENs of both directions: a file has the octets of the other one.
     Opens,
 }
@@ -107,13 +120,24 @@ fn refreshes(flags: &ArgMatches<'_>) -> Refreshes
     }
 }
 
+// What the flags say of a session.
+fn flag_terms(flags: &ArgMatches<'_>, as4: bool) -> FlagTerms
+    ensures { result ≡ flag_terms_of as4 (rows_of (found_of flags.now)) }
+{
+    FlagTerms {
+        context: context(flags, as4),
+        refresh: refreshes(flags),
+        paths: paths_of(flags),
+    }
+}
+
 // What gives the context: the flags, unless a file is given for it.
 fn session_of(flags: &ArgMatches<'_>, as4: bool) -> Session
     ensures { result ≡ session_of as4 (rows_of (found_of flags.now)) }
 {
     match value_of(flags, OPENS) {
         Some(_) => Session::Opens,
-        None => Session::Flags(context(flags, as4), refreshes(flags)),
+        None => Session::Flags(flag_terms(flags, as4)),
     }
 }
 
@@ -211,6 +235,9 @@ fn ask<'a>(alloc: Global, name: &str, flags: &ArgMatches<'a>) -> Result<Option<A
 {
     if is_told_twice(flags) {
         return Err(conflict(alloc, name, flags)?);
+    }
+    if is_no_list(flags) {
+        return Err(bad_families(alloc, name, flags)?);
     }
     if drops_twice(flags) {
         return Err(drop_conflict(alloc)?);

@@ -3,6 +3,4 @@ use Rattle.bgp_words.proofs.commands.with_printing.Goals as goal
 
 pub returns-clause-shape : goal.returns-clause-shape
 returns-clause-shape c =
-    IfOk-weaker c.with_flag-2.result _ _
-    (λ r is. is ∙ ap (λ (a : App). with_flag a (codes "json")) (c.in_ok-command.ensures.shape ∙ ap (λ (a : App). with_flag a (codes "only-faults")) c.in_ok-with_judging.ensures.shape))
-    c.with_flag-2.ensures.shape
+    IfOk-weaker c.with_flag-2.result _ _ (λ r is. is ∙ ap (λ (a : App). with_flag a (codes "json")) c.in_ok-command.ensures.shape) c.with_flag-2.ensures.shape

@@ -104,3 +104,51 @@ returns-clause-both_enhanced c = refl
 pub returns-clause-no_enhanced : goal.returns-clause-no_enhanced
 unfolding clap_on_literals
 returns-clause-no_enhanced c = refl
+
+pub returns-clause-both_paths : goal.returns-clause-both_paths
+unfolding clap_on_literals
+returns-clause-both_paths c = refl
+
+pub returns-clause-both_bad : goal.returns-clause-both_bad
+unfolding clap_on_literals
+returns-clause-both_bad c = refl
+
+pub returns-clause-paths_twice : goal.returns-clause-paths_twice
+unfolding clap_on_literals
+returns-clause-paths_twice c = refl
+
+pub returns-clause-no_families : goal.returns-clause-no_families
+unfolding clap_on_literals
+returns-clause-no_families c = refl
+
+pub returns-clause-empty_families : goal.returns-clause-empty_families
+unfolding clap_on_literals
+returns-clause-empty_families c = refl
+
+pub returns-clause-no_family : goal.returns-clause-no_family
+unfolding clap_on_literals
+returns-clause-no_family c = refl
+
+pub returns-clause-family_twice : goal.returns-clause-family_twice
+unfolding clap_on_literals
+returns-clause-family_twice c = refl
+
+pub returns-clause-families_apart : goal.returns-clause-families_apart
+unfolding clap_on_literals
+returns-clause-families_apart c = refl
+
+pub returns-clause-paths_narrow : goal.returns-clause-paths_narrow
+unfolding clap_on_literals
+returns-clause-paths_narrow c = refl
+
+pub returns-clause-paths_clean : goal.returns-clause-paths_clean
+unfolding clap_on_literals
+returns-clause-paths_clean c = refl
+
+pub returns-clause-paths_explain : goal.returns-clause-paths_explain
+unfolding clap_on_literals
+returns-clause-paths_explain c = refl
+
+pub returns-clause-paths_to_hex : goal.returns-clause-paths_to_hex
+unfolding clap_on_literals
+returns-clause-paths_to_hex c = refl

@@ -128,3 +128,19 @@ returns-clause-show_enhanced c = record { without_fault = refl; asked = λ drops
 pub returns-clause-to_hex_refresh : goal.returns-clause-to_hex_refresh
 unfolding clap_on_literals
 returns-clause-to_hex_refresh c = record { without_fault = refl; asked = λ drops. refl; left_out = refl }
+
+pub returns-clause-show_paths : goal.returns-clause-show_paths
+unfolding clap_on_literals
+returns-clause-show_paths c = record { without_fault = refl; asked = λ drops. refl; left_out = refl }
+
+pub returns-clause-show_all : goal.returns-clause-show_all
+unfolding clap_on_literals
+returns-clause-show_all c = record { without_fault = refl; asked = λ drops. refl; left_out = refl }
+
+pub returns-clause-check_paths : goal.returns-clause-check_paths
+unfolding clap_on_literals
+returns-clause-check_paths c = record { without_fault = refl; asked = λ drops. refl; left_out = refl }
+
+pub returns-clause-check_both : goal.returns-clause-check_both
+unfolding clap_on_literals
+returns-clause-check_both c = record { without_fault = refl; asked = λ drops. refl; left_out = refl }
