@@ -139,7 +139,7 @@ def agreed_paths(sender, receiver):
 
 
 def paths_flag(sender, receiver):
-    """The flag by which `show` and `check` read the path identifiers of what the first one sends: none where there are none."""
+    """The flag by which `show`, `explain` and `check` read the path identifiers of what the first one sends: none where there are none."""
     families = agreed_paths(sender, receiver)
     names = [name for name, family in (("ip4", IP4_UNICAST), ("ip6", IP6_UNICAST)) if family in families]
     return f"--paths {','.join(names)}" if names else ""

@@ -30,6 +30,7 @@ complete -c bgp -n '__fish_seen_subcommand_from explain' -l ip6 -d 'IPv6 routes 
 complete -c bgp -n '__fish_seen_subcommand_from explain' -l internal -d 'Both speakers are of one AS'
 complete -c bgp -n '__fish_seen_subcommand_from explain' -l refresh -d 'The receiver offers ROUTE-REFRESH (RFC 2918)'
 complete -c bgp -n '__fish_seen_subcommand_from explain' -l enhanced-refresh -d 'Both speakers offer enhanced ROUTE-REFRESH (RFC 7313)'
+complete -c bgp -n '__fish_seen_subcommand_from explain' -l paths -x -d 'Routes of FAMILIES have path identifiers (RFC 7911)'
 complete -c bgp -n '__fish_seen_subcommand_from explain' -l opens -r -F -d 'Agree by both OPENs: FILE has the other direction'
 complete -c bgp -n '__fish_seen_subcommand_from explain' -l only-faults -d 'Print messages with faults or notes, and NOTIFICATIONs'
 complete -c bgp -n '__fish_seen_subcommand_from explain' -l json -d 'Print each message as an object of JSON'

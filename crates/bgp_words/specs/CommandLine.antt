@@ -101,7 +101,7 @@ abbrev pub show_command : App
 show_command = with_printing (with_reading (new_app (codes "show")))
 
 abbrev pub explain_command : App
-explain_command = with_printing (with_judging (new_app (codes "explain")))
+explain_command = with_printing (with_reading (new_app (codes "explain")))
 
 abbrev pub check_command : App
 check_command = with_reading (new_app (codes "check"))

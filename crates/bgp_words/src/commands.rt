@@ -339,7 +339,7 @@ pub(crate) fn explain<'a>(alloc: Global) -> Result<Command<'a>, AllocError>
         "Print each message's outcome and its fields",
         EXPLAIN_HELP,
     );
-    with_printing(alloc, with_judging(alloc, explain)?)
+    with_printing(alloc, with_reading(alloc, explain)?)
 }
 
 /// The command that checks.

@@ -24,6 +24,7 @@ pub fn words_have_one_meaning()
     ensures explain { CanBeDone (codes "explain" ∷ []) (Explain (by_flags false false) false false false) }
     ensures explain_all { CanBeDone (codes "explain" ∷ codes "--only-faults" ∷ codes "--hex" ∷ codes "--as4" ∷ codes "--ip4" ∷ codes "--ip6" ∷ codes "--internal" ∷ codes "--refresh" ∷ codes "--enhanced-refresh" ∷ []) (Explain (by_flags true true) true false true) }
     ensures explain_json { CanBeDone (codes "explain" ∷ codes "--json" ∷ codes "--only-faults" ∷ []) (Explain (by_flags false false) false true true) }
+    ensures explain_paths { CanBeDone (codes "explain" ∷ codes "--paths" ∷ codes "ip4" ∷ []) (Explain (session_with (flags false false) refreshes.None true false) false false false) }
     ensures explain_opens { CanBeDoneWith (codes "explain" ∷ codes "--opens" ∷ codes "theirs" ∷ []) (Explain Opens false false false) (codes "theirs") }
     ensures check { CanBeDone (codes "check" ∷ []) (Check (by_flags false false) false) }
     ensures check_hex { CanBeDone (codes "check" ∷ codes "--enhanced-refresh" ∷ codes "--internal" ∷ codes "--ip6" ∷ codes "--ip4" ∷ codes "--as4" ∷ codes "--hex" ∷ []) (Check (by_flags true true) true) }
@@ -76,7 +77,6 @@ pub fn words_can_be_wrong()
     ensures families_apart { faults_of (codes "show" ∷ codes "--paths" ∷ codes "ip4, ip6" ∷ []) ≡ error.InvalidValue ∷ [] }
     ensures paths_narrow { faults_of (codes "narrow" ∷ codes "--paths" ∷ codes "ip4" ∷ []) ≡ error.UnknownArgument ∷ [] }
     ensures paths_clean { faults_of (codes "clean" ∷ codes "--paths" ∷ codes "ip4" ∷ []) ≡ error.UnknownArgument ∷ [] }
-    ensures paths_explain { faults_of (codes "explain" ∷ codes "--paths" ∷ codes "ip4" ∷ []) ≡ error.UnknownArgument ∷ [] }
     ensures paths_to_hex { faults_of (codes "to-hex" ∷ codes "--paths" ∷ codes "ip4" ∷ []) ≡ error.UnknownArgument ∷ [] }
     ensures no_value { faults_of (codes "check" ∷ codes "--opens" ∷ []) ≡ error.InvalidValue ∷ [] }
     ensures no_file { faults_of (codes "loop" ∷ []) ≡ error.MissingRequiredArgument ∷ [] }

@@ -145,10 +145,6 @@ pub returns-clause-paths_clean : goal.returns-clause-paths_clean
 unfolding clap_on_literals
 returns-clause-paths_clean c = refl
 
-pub returns-clause-paths_explain : goal.returns-clause-paths_explain
-unfolding clap_on_literals
-returns-clause-paths_explain c = refl
-
 pub returns-clause-paths_to_hex : goal.returns-clause-paths_to_hex
 unfolding clap_on_literals
 returns-clause-paths_to_hex c = refl

@@ -113,6 +113,10 @@ pub returns-clause-explain_json : goal.returns-clause-explain_json
 unfolding clap_on_literals
 returns-clause-explain_json c = record { without_fault = refl; asked = λ drops. refl; left_out = refl }
 
+pub returns-clause-explain_paths : goal.returns-clause-explain_paths
+unfolding clap_on_literals
+returns-clause-explain_paths c = record { without_fault = refl; asked = λ drops. refl; left_out = refl }
+
 pub returns-clause-explain_opens : goal.returns-clause-explain_opens
 unfolding clap_on_literals
 returns-clause-explain_opens c = record { without_fault = refl; asked = λ drops. refl; left_out = refl }
