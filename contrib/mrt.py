@@ -1,4 +1,4 @@
-"""The records of MRT files (RFC 6396), as RIPE RIS and RouteViews archive them: plain, gzip or bzip2, in blocks, so that memory doesn't grow with
+"""The records of MRT files (RFC 6396, 8050), as RIPE RIS and RouteViews archive them: plain, gzip or bzip2, in blocks, so that memory doesn't grow with
 the file.
 
     with mrt.Archive("updates.20261127.0000.gz") as archive:
@@ -46,6 +46,7 @@ TABLE_DUMP_V2, BGP4MP, BGP4MP_ET = 13, 16, 17
 ADDRESS_OCTETS = {1: 4, 2: 16}
 LENGTH_AND_TYPE = struct.Struct(">HB")
 ENTRY = struct.Struct(">HIH")
+PATH_ENTRY = struct.Struct(">HIIH")
 UPDATE_HEAD = struct.Struct(">16sHBHH")
 
 STATES = ("0", "Idle", "Connect", "Active", "OpenSent", "OpenConfirm", "Established")
@@ -57,14 +58,14 @@ Record = collections.namedtuple("Record", "time session octets change")
 
 class Session:
     """Whose messages or changes of state: a peer's address and AS number, the collector's AS number (None in a table, which doesn't have it), the
-    octets of AS numbers in the messages, and what was recorded: messages that the collector received (RECEIVED) or sent (SENT), entries of a table
-    (TABLE), or changes of state (STATE). An item of it begins with the time; `start` is where the message or the states begin, four octets later
-    where there are microseconds."""
+    octets of AS numbers in the messages, whether their routes have path identifiers (RFC 8050), and what was recorded: messages that the collector
+    received (RECEIVED) or sent (SENT), entries of a table (TABLE), or changes of state (STATE). An item of it begins with the time; `start` is where
+    the message or the states begin, four octets later where there are microseconds."""
 
-    __slots__ = ("peer", "peer_as", "local_as", "width", "what", "start", "keep")
+    __slots__ = ("peer", "peer_as", "local_as", "width", "paths", "what", "start", "keep")
 
-    def __init__(self, peer, peer_as, local_as, width, what, start):
-        self.peer, self.peer_as, self.local_as, self.width, self.what, self.start = peer, peer_as, local_as, width, what, start
+    def __init__(self, peer, peer_as, local_as, width, paths, what, start):
+        self.peer, self.peer_as, self.local_as, self.width, self.paths, self.what, self.start = peer, peer_as, local_as, width, paths, what, start
         # What adds an item to those that are kept, if that is known.
         self.keep = None
 
@@ -81,11 +82,11 @@ class Damage(Exception):
 
 
 class Form:
-    """A subtype of BGP4MP: the octets of AS numbers, what it records, and where its fields begin. And what is known of its records: their sessions by
-    these fields, and messages by what precedes their bodies."""
+    """A subtype of BGP4MP: the octets of AS numbers, whether routes have path identifiers, what it records, and where its fields begin. And what is known
+    of its records: their sessions by these fields, and messages by what precedes their bodies."""
 
-    def __init__(self, width, what, begin):
-        self.width, self.what, self.begin = width, what, begin
+    def __init__(self, width, paths, what, begin):
+        self.width, self.paths, self.what, self.begin = width, paths, what, begin
         self.fields = struct.Struct(">IIHH" if width == 4 else ">HHHH")
         self.family_at = begin + self.fields.size - 1
         self.ends = {family: begin + self.fields.size + 2 * count for family, count in ADDRESS_OCTETS.items()}
@@ -105,7 +106,7 @@ class Form:
         if session is None:
             peer_as, local_as, _interface, family = self.fields.unpack_from(fields)
             peer = address(fields[self.fields.size:self.fields.size + ADDRESS_OCTETS[family]])
-            session = Session(peer, peer_as, local_as, self.width, self.what, HEAD.size + len(fields))
+            session = Session(peer, peer_as, local_as, self.width, self.paths, self.what, HEAD.size + len(fields))
             keep_at_most(MOST_KNOWN, self.sessions)[fields] = session
         return session, end
 
@@ -134,13 +135,15 @@ def code(kind, subtype):
     return kind << 16 | subtype
 
 
-MESSAGES = {1: (2, RECEIVED), 4: (4, RECEIVED), 6: (2, SENT), 7: (4, SENT)}
-STATE_CHANGES = {0: (2, STATE), 5: (4, STATE)}
+# Those from 8 on have path identifiers (RFC 8050, sections 3 and 4).
+MESSAGES = {
+    1: (2, False, RECEIVED), 4: (4, False, RECEIVED), 6: (2, False, SENT), 7: (4, False, SENT),
+    8: (2, True, RECEIVED), 9: (4, True, RECEIVED), 10: (2, True, SENT), 11: (4, True, SENT),
+}
+STATE_CHANGES = {0: (2, False, STATE), 5: (4, False, STATE)}
 PEER_INDEX_TABLE = code(TABLE_DUMP_V2, 1)
-TABLES = {code(TABLE_DUMP_V2, 2): 1, code(TABLE_DUMP_V2, 4): 2}
-OTHER_FAMILIES = {code(TABLE_DUMP_V2, subtype) for subtype in (3, 5, 6)}
-WITH_PATHS = {code(kind, subtype) for kind in (BGP4MP, BGP4MP_ET) for subtype in (8, 9, 10, 11)}
-WITH_PATHS |= {code(TABLE_DUMP_V2, subtype) for subtype in (8, 9, 10, 11, 12)}
+TABLES = {code(TABLE_DUMP_V2, subtype): form for subtype, form in ((2, (1, False)), (4, (2, False)), (8, (1, True)), (10, (2, True)))}
+OTHER_FAMILIES = {code(TABLE_DUMP_V2, subtype) for subtype in (3, 5, 6, 9, 11, 12)}
 
 
 class LeftOut(Exception):
@@ -191,8 +194,6 @@ def number_in(octets, at, size):
 
 def why_unread(number):
     """Why records of this type and subtype aren't read."""
-    if number in WITH_PATHS:
-        return "with path identifiers"
     if number in OTHER_FAMILIES:
         return "of another family"
     kind, subtype = divmod(number, 1 << 16)
@@ -257,7 +258,7 @@ def unpacked(blocks, make, unpack):
 
 
 def peers_in(body):
-    """The peers of a table, in their order."""
+    """The peers of a table, in their order, each as a session without path identifiers and as one with them."""
     at = 6 + number_in(body, 4, 2)
     count, at = number_in(body, at, 2), at + 2
     for _ in range(count):
@@ -266,7 +267,7 @@ def peers_in(body):
         end = begin + (16 if kind & 1 else 4)
         width = 4 if kind & 2 else 2
         peer_as = number_in(body, end, width)
-        yield Session(address(body[begin:end]), peer_as, None, 4, TABLE, TIME.size)
+        yield tuple(Session(address(body[begin:end]), peer_as, None, 4, paths, TABLE, TIME.size) for paths in (False, True))
         at = end + width
 
 
@@ -293,8 +294,8 @@ def next_hop_in(value):
 
 
 def announced(family, prefix, attributes):
-    """The UPDATE that announces a prefix with the attributes of a table's entry: IPv6, whose next hop is in MP_REACH_NLRI, there, and IPv4 as
-    NLRI."""
+    """The UPDATE that announces a prefix, after its path identifier if it has one, with the attributes of a table's entry: IPv6, whose next hop is in
+    MP_REACH_NLRI, there, and IPv4 as NLRI."""
     reach = reach_in(attributes) if family == 2 or b"\x0e" in attributes else None
     if reach is not None:
         at, value, end = reach
@@ -447,7 +448,7 @@ class Archive:
             for peer in peers_in(record[HEAD.size:]):
                 self.peers.append(peer)
         elif number in TABLES:
-            yield from self.entries(TABLES[number], record[HEAD.size:], at)
+            yield from self.entries(*TABLES[number], record[HEAD.size:], at)
         else:
             raise LeftOut(why_unread(number))
 
@@ -479,8 +480,9 @@ class Archive:
             raise LeftOut("cut off")
         return session, record
 
-    def entries(self, family, body, at):
-        """The entries of a table for one prefix, each as an UPDATE of the time at which the collector received it."""
+    def entries(self, family, paths, body, at):
+        """The entries of a table for one prefix, each as an UPDATE of the time at which the collector received it; with its path identifier where it has
+        one."""
         if self.peers is None:
             raise LeftOut("without a table of peers")
         bits = number_in(body, 4, 1)
@@ -490,16 +492,18 @@ class Archive:
         prefix, count = body[4:end], number_in(body, end, 2)
         end += 2
         for _ in range(count):
-            if end + ENTRY.size > len(body):
+            entry = PATH_ENTRY if paths else ENTRY
+            if end + entry.size > len(body):
                 raise LeftOut("cut off")
-            peer, second, length = ENTRY.unpack_from(body, end)
-            begin = end + ENTRY.size
+            peer, second, *path, length = entry.unpack_from(body, end)
+            route = b"".join(it.to_bytes(4, "big") for it in path) + prefix
+            begin = end + entry.size
             end = begin + length
             if end > len(body):
                 raise LeftOut("cut off")
             try:
                 if peer >= len(self.peers):
                     raise LeftOut("of a peer that the table lacks")
-                yield self.peers[peer], TIME.pack(second, TABLE_DUMP_V2, 0) + announced(family, prefix, body[begin:end])
+                yield self.peers[peer][paths], TIME.pack(second, TABLE_DUMP_V2, 0) + announced(family, route, body[begin:end])
             except LeftOut as why:
                 self.leave_out(str(why), at)

@@ -37,9 +37,12 @@ def context_of(width: int, is_internal: bool) -> ristulva.Context:
     return ristulva.Context(internal=is_internal, as4=width == 4, ip4=True, ip6=True)
 
 
-def judged(octets: bytes, width: int, is_internal: bool) -> typing.Optional[ristulva.Message]:
-    """A message; an UPDATE that is accepted whole as speakers with AS numbers of four octets see it (RFC 6793, section 4.2.3)."""
+def judged(octets: bytes, width: int, is_internal: bool, has_paths: bool = False) -> typing.Optional[ristulva.Message]:
+    """A message; an UPDATE that is accepted whole as speakers with AS numbers of four octets see it (RFC 6793, section 4.2.3), but where routes have path
+    identifiers."""
     context = context_of(width, is_internal)
+    if has_paths:
+        return ristulva.judge(octets, ristulva.Terms(context, paths4=True, paths6=True))
     message = ristulva.judge(octets, context)
     if width == 4 or message is None or message.verdict != "update":
         return message
@@ -58,6 +61,6 @@ def heard(archive: typing.Any) -> typing.Iterator[Heard]:
             if record.change[0] == "Established" and record.change[1] != "Established":
                 yield Heard(record.time, peer, None)
         elif session.what != mrt.SENT:
-            message = judged(record.octets, session.width, session.peer_as == session.local_as)
+            message = judged(record.octets, session.width, session.peer_as == session.local_as, session.paths)
             if message is not None:
                 yield Heard(record.time, peer, message, session.what == mrt.TABLE)
