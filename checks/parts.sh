@@ -173,8 +173,9 @@ over_the_programs() { # the program, the one of rows, a flag for one that is not
     part_in_python "objects" checks/examples/check-json "$1"
     part_in_python "explained examples" checks/examples/check-explain "$1"
     part "rows" rows "$2" "$3"
-    # Without tshark, captures of packets are left out and counted.
+    # Without tshark, captures of packets are left out and counted; without bgpdump, what it reads of an MRT file.
     have tshark tshark
+    have bgpdump bgpdump
     part_in_python "explained beside tshark" checks/examples/beside-tshark "$1"
     # Of a slow program there are fewer captures of each kind, and fewer streams.
     if [ "$3" = --unproved ]; then

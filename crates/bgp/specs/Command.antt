@@ -79,9 +79,14 @@ has_refresh refreshes.Enhanced = true
 abbrev pub are_plain : FlagTerms → Bool
 are_plain f = not (has_refresh f.refresh || (f.paths.ip4 || f.paths.ip6))
 
+-- the first where it holds, else the second
+abbrev pub either_reports : Bool → Reports → Reports → Reports
+either_reports true plain wide = plain
+either_reports false plain wide = wide
+
 -- the reports of the flags: in the context, or where ROUTE-REFRESH is offered or routes have path identifiers, in these terms
 abbrev pub by_flags : (Context → Reports) → (Agreed → Reports) → FlagTerms → Reports
-by_flags plain under f = if are_plain f then plain f.context else under (flag_terms f)
+by_flags plain under f = either_reports (are_plain f) (plain f.context) (under (flag_terms f))
 
 abbrev pub cleaned_in : OctetSet → Context → Reports
 cleaned_in drops ctx = CleanedIn ctx (has_octet drops) no_limits

@@ -1,11 +1,13 @@
 //! Laws over the definitions alone: these functions do nothing, and their contracts are what is proved.
 
-ghost use Rattle.std.specs.Prelude.{◌≡◌, ℕ, List, codes};
+ghost use Rattle.std.specs.Prelude.{◌≡◌, ◌++◌, ℕ, List, codes, map};
+ghost use Rattle.bgp_paths.specs.Prelude.{PathPrefixValue, numbers_of};
 ghost use Rattle.bgp_text.specs.Below.{Notification, Context, out_of, of_fault, refresh_notification};
 ghost use Rattle.bgp_frame.specs.declared.fault.HeadFault.{HeadFault};
 ghost use Rattle.bgp_frame.specs.declared.kind.Kind.TheVariants as kind;
 ghost use Rattle.bgp_refresh.specs.declared.fault.RefreshFault.TheVariants as refresh_fault;
 ghost use Rattle.bgp_msg.specs.declared.outcome.Outcome.TheVariants as outcome;
+ghost use Rattle.bgp_text.specs.Beside.{beside, numbers_by_part, numbers_ip4, numbers_ip6, prefixes_of, received};
 ghost use Rattle.bgp_text.specs.Outcome.{reset_name};
 
 /// A reset is printed under the name of what causes it, which its code determines: a header, an OPEN, an UPDATE or a ROUTE-REFRESH.
@@ -18,4 +20,16 @@ pub fn resets_are_named_for_what_they_answer()
         → out_of ctx (record { kind = kind.Update; body = body }) ≡ outcome.Reset n → reset_name n.code ≡ codes "UPDATE" }
     ensures refreshes { (body : List ℕ)
         → reset_name (refresh_notification refresh_fault.Length body).code ≡ codes "ROUTE-REFRESH" }
+{}
+
+/// Each route stands beside its own path identifier (RFC 7911, section 3): those of a run, and those of all parts of an UPDATE one after the other, as they
+/// are withdrawn where it is treated as a withdrawal.
+pub fn routes_stand_beside_their_own_identifiers()
+    ensures run { (rs : List PathPrefixValue) → beside (prefixes_of rs) (numbers_of rs) ≡ map received rs }
+    ensures ip4 { (w u u6 r r6 n : List PathPrefixValue)
+        → beside (prefixes_of w ++ (prefixes_of u ++ (prefixes_of r ++ prefixes_of n))) (numbers_ip4 (numbers_by_part w u u6 r r6 n))
+            ≡ map received w ++ (map received u ++ (map received r ++ map received n)) }
+    ensures ip6 { (w u u6 r r6 n : List PathPrefixValue)
+        → beside (prefixes_of u6 ++ prefixes_of r6) (numbers_ip6 (numbers_by_part w u u6 r r6 n))
+            ≡ map received u6 ++ map received r6 }
 {}
