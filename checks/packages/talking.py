@@ -28,15 +28,21 @@ def words(own, peer, *more):
     return ["--local-as", str(own), "--peer-as", str(peer), "--id", f"192.0.2.{own % 10}", "--as4", "--ip4", "--seconds", "30", *more]
 
 
+def guard_run(words):
+    """What starts bgp_guard_run between two ports, for one session."""
+    return lambda outer, inner: [*words, "--listen", f"127.0.0.1:{outer}", "--to", f"127.0.0.1:{inner}", "--sessions", "1"]
+
+
 def talk(listening, connecting, guard=None):
-    """A session of two speakers, the second of which stops it at the first's KEEPALIVE; through a guard. What each printed, and its status."""
+    """A session of two speakers, the second of which stops it at the first's KEEPALIVE; through a guard, of which `guard` gives the words. What each
+    printed, and its status."""
     inner, outer = free_ports(2)
     pipes = {"stdin": subprocess.DEVNULL, "stdout": subprocess.PIPE, "stderr": subprocess.PIPE}
     began = [subprocess.Popen([*listening, *words(65001, 65002, "--listen", f"127.0.0.1:{inner}")], **pipes)]
     try:
         wait_for(inner)
         if guard:
-            began.append(subprocess.Popen([*guard, "--listen", f"127.0.0.1:{outer}", "--to", f"127.0.0.1:{inner}", "--sessions", "1"], **pipes))
+            began.append(subprocess.Popen(guard(outer, inner), **pipes))
             wait_for(outer)
         began.append(subprocess.Popen([*connecting, *words(65002, 65001, "--messages", "2", f"127.0.0.1:{outer if guard else inner}")], **pipes))
         return [(it.communicate(timeout=LONGEST), it.returncode) for it in began]
@@ -49,7 +55,7 @@ def talk(listening, connecting, guard=None):
                 it.wait()
 
 
-def came_up(did):
-    """Whether both speakers' session came up, and the guard between them reported it up and ended."""
+def came_up(did, told=(b"\nup 1 ", b"\nend 1 ")):
+    """Whether both speakers' session came up, and the guard between them reported so and ended."""
     speakers, guards = (did[0], did[-1]), did[1:-1]
-    return len(did) > 1 and all(b"state Established\n" in said[0] for said, _ in speakers) and all(b"\nup 1 " in said[0] and b"\nend 1 " in said[0] for said, _ in guards)
+    return len(did) > 1 and all(b"state Established\n" in said[0] for said, _ in speakers) and all(it in said[0] and status == 0 for said, status in guards for it in told)
