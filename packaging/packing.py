@@ -7,6 +7,7 @@ import pathlib
 import re
 import shutil
 import subprocess
+import sys
 import tarfile
 
 TOP = pathlib.Path(__file__).resolve().parent.parent
@@ -18,6 +19,8 @@ LIBRARIES = {"libc.so.6": "libc6", "libm.so.6": "libc6", "ld-linux-x86-64.so.2":
 # The newest glibc that a program or a library may ask for.
 NEWEST_GLIBC = (2, 17)
 UNBUILT, MISSING = 66, 69
+# From this one on the packages of the same files are the same.
+OLDEST_PYTHON = (3, 9)
 
 
 class Stop(Exception):
@@ -88,6 +91,8 @@ def look_for_built():
 
 
 def look_for_tools(tools):
+    if sys.version_info < OLDEST_PYTHON:
+        raise Stop(f"Python is older than {dotted(OLDEST_PYTHON)}, and writes other headers of tar archives", MISSING)
     more = {ARM64.tool("strip"): "binutils-aarch64-linux-gnu"} if ARM64 in targets() else {}
     for tool, package in {**tools, **more}.items():
         if shutil.which(tool) is None:

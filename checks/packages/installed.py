@@ -53,6 +53,16 @@ def programs(text, language):
     return re.findall(rf"^```{language}\n(.*?)^```$", text, re.M | re.S)
 
 
+def fragments(text):
+    """The parts of programs in C that a document shows, as one file: each is a function, with what fragments.h leaves to its host."""
+    found = enumerate(programs(text, "c"), 1)
+    return '#include "fragments.h"\n' + "".join(f"\nvoid *fragment_{number}(void);\nvoid *fragment_{number}(void)\n{{\n{it}return NULL;\n}}\n" for number, it in found)
+
+
+# Each fragment uses a part of what it shares with others.
+FRAGMENTS_FLAGS = ["-std=c99", "-Wall", "-Wextra", "-Werror", "-Wno-unused", "-fsyntax-only"]
+
+
 def consoles(text):
     """The commands that a document shows, each with the lines below it."""
     for block in re.findall(r"(?:^    .*\n)+", text, re.M):

@@ -2,9 +2,9 @@
  *
  *     batches [--as4] [--ip4] [--ip6] [--internal] ROOM < STREAM
  *
- * ROOM is how many rows the lists have. Each row begins with the offset of its message, and after those of each kind a line has the status, and where
- * the last batch ended. After the rows of a batch the list has to be as it was. The program's status is 0, or 1 where it isn't, 2 for a fault of the
- * command line, 4 where a read or a write failed. */
+ * ROOM is how many rows the lists have, 4073 (RISTULVA_BATCH) or more: below that nothing is printed. Each row begins with the offset of its message, and
+ * after those of each kind a line has the status, and where the last batch ended. After the rows of a batch the list has to be as it was. The program's
+ * status is 0, or 1 where it isn't, 2 for a fault of the command line, 4 where a read or a write failed. */
 #include "ristulva.h"
 #include <arpa/inet.h>
 #include <stdio.h>
