@@ -22,14 +22,18 @@ pub fn resets_are_named_for_what_they_answer()
         → reset_name (refresh_notification refresh_fault.Length body).code ≡ codes "ROUTE-REFRESH" }
 {}
 
-/// Each route stands beside its own path identifier (RFC 7911, section 3): those of a run, and those of all parts of an UPDATE one after the other, as they
+/// Each route has its own path identifier beside it (RFC 7911, section 3): those of a run, and those of all parts of an UPDATE one after the other, as they
 /// are withdrawn where it is treated as a withdrawal.
-pub fn routes_stand_beside_their_own_identifiers()
+pub fn routes_have_their_own_identifiers_beside_them()
     ensures run { (rs : List PathPrefixValue) → beside (prefixes_of rs) (numbers_of rs) ≡ map received rs }
-    ensures ip4 { (w u u6 r r6 n : List PathPrefixValue)
-        → beside (prefixes_of w ++ (prefixes_of u ++ (prefixes_of r ++ prefixes_of n))) (numbers_ip4 (numbers_by_part w u u6 r r6 n))
-            ≡ map received w ++ (map received u ++ (map received r ++ map received n)) }
-    ensures ip6 { (w u u6 r r6 n : List PathPrefixValue)
-        → beside (prefixes_of u6 ++ prefixes_of r6) (numbers_ip6 (numbers_by_part w u u6 r r6 n))
-            ≡ map received u6 ++ map received r6 }
+    ensures ip4 { (withdrawn unreached4 unreached6 reached4 reached6 nlri : List PathPrefixValue)
+        → beside
+            (prefixes_of withdrawn ++ (prefixes_of unreached4 ++ (prefixes_of reached4 ++ prefixes_of nlri)))
+            (numbers_ip4 (numbers_by_part withdrawn unreached4 unreached6 reached4 reached6 nlri))
+            ≡ map received withdrawn ++ (map received unreached4 ++ (map received reached4 ++ map received nlri)) }
+    ensures ip6 { (withdrawn unreached4 unreached6 reached4 reached6 nlri : List PathPrefixValue)
+        → beside
+            (prefixes_of unreached6 ++ prefixes_of reached6)
+            (numbers_ip6 (numbers_by_part withdrawn unreached4 unreached6 reached4 reached6 nlri))
+            ≡ map received unreached6 ++ map received reached6 }
 {}

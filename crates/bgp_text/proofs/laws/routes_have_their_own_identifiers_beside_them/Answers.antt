@@ -3,7 +3,7 @@ use Rattle.bgp_prefix.specs.Prelude.{PrefixValue}
 use Rattle.bgp_paths.specs.Prelude.{PathPrefixValue, numbers_of}
 use Rattle.bgp_text.specs.declared.beside.Beside.{Beside}
 use Rattle.bgp_text.specs.Beside.{beside, prefixes_of, received}
-use Rattle.bgp_text.proofs.laws.routes_stand_beside_their_own_identifiers.Goals as goal
+use Rattle.bgp_text.proofs.laws.routes_have_their_own_identifiers_beside_them.Goals as goal
 
 own : (rs : List PathPrefixValue) → beside (prefixes_of rs) (numbers_of rs) ≡ map received rs
 own [] = refl
