@@ -1,1 +1,2 @@
 pub mod WideRequests
+pub mod Flags
