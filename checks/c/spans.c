@@ -210,10 +210,10 @@ static void try_names(void)
     WANT(ristulva_field_name(RISTULVA_FIELD_MARKER, name, 5, &written) == RISTULVA_ROOM && written == 6 && name[0] == 'N');
     written = 77;
     WANT(ristulva_field_name(0, name, sizeof name, &written) == RISTULVA_RANGE && written == 77);
-    WANT(ristulva_field_name(RISTULVA_FIELD_SUBTYPE + 1, name, sizeof name, &written) == RISTULVA_RANGE && written == 77);
-    for (kind = RISTULVA_FIELD_MARKER; kind <= RISTULVA_FIELD_SUBTYPE; kind++)
+    WANT(ristulva_field_name(RISTULVA_FIELD_PATH_IDENTIFIER + 1, name, sizeof name, &written) == RISTULVA_RANGE && written == 77);
+    for (kind = RISTULVA_FIELD_MARKER; kind <= RISTULVA_FIELD_PATH_IDENTIFIER; kind++)
         WANT(ristulva_field_name(kind, name, sizeof name, &written) == RISTULVA_OK && written > 0 && written <= sizeof name);
-    calls += 4 + RISTULVA_FIELD_SUBTYPE;
+    calls += 4 + RISTULVA_FIELD_PATH_IDENTIFIER;
 }
 
 /* ---- streams ---- */

@@ -26,7 +26,7 @@ static void try_names(void)
     written = 77;
     name = list_of(room);
     status = ristulva_field_name(field, name, room, &written);
-    WANT((status == RISTULVA_RANGE) == (field < RISTULVA_FIELD_MARKER || field > RISTULVA_FIELD_SUBTYPE));
+    WANT((status == RISTULVA_RANGE) == (field < RISTULVA_FIELD_MARKER || field > RISTULVA_FIELD_PATH_IDENTIFIER));
     WANT(status == RISTULVA_RANGE ? written == 77 : written <= RISTULVA_FIELD_NAME && status == (written <= room ? RISTULVA_OK : RISTULVA_ROOM));
     WANT(is_rest_unchanged(name, status == RISTULVA_OK ? written : 0));
     calls += 2;
