@@ -28,12 +28,12 @@ pub fn routes_have_their_own_identifiers_beside_them()
     ensures run { (rs : List PathPrefixValue) → beside (prefixes_of rs) (numbers_of rs) ≡ map received rs }
     ensures ip4 { (withdrawn unreached4 unreached6 reached4 reached6 nlri : List PathPrefixValue)
         → beside
-            (prefixes_of withdrawn ++ (prefixes_of unreached4 ++ (prefixes_of reached4 ++ prefixes_of nlri)))
-            (numbers_ip4 (numbers_by_part withdrawn unreached4 unreached6 reached4 reached6 nlri))
-            ≡ map received withdrawn ++ (map received unreached4 ++ (map received reached4 ++ map received nlri)) }
+        (prefixes_of withdrawn ++ (prefixes_of unreached4 ++ (prefixes_of reached4 ++ prefixes_of nlri)))
+        (numbers_ip4 (numbers_by_part withdrawn unreached4 unreached6 reached4 reached6 nlri))
+        ≡ map received withdrawn ++ (map received unreached4 ++ (map received reached4 ++ map received nlri)) }
     ensures ip6 { (withdrawn unreached4 unreached6 reached4 reached6 nlri : List PathPrefixValue)
         → beside
-            (prefixes_of unreached6 ++ prefixes_of reached6)
-            (numbers_ip6 (numbers_by_part withdrawn unreached4 unreached6 reached4 reached6 nlri))
-            ≡ map received unreached6 ++ map received reached6 }
+        (prefixes_of unreached6 ++ prefixes_of reached6)
+        (numbers_ip6 (numbers_by_part withdrawn unreached4 unreached6 reached4 reached6 nlri))
+        ≡ map received unreached6 ++ map received reached6 }
 {}

@@ -23,8 +23,8 @@ returns-clause-ip4 c = λ w u u6 r r6 n.
     ap (beside (prefixes_of w ++ (prefixes_of u ++ (prefixes_of r ++ prefixes_of n)))) (append_assoc (numbers_of w) (numbers_of u) (numbers_of r ++ numbers_of n))
     ∙ own_first w (prefixes_of u ++ (prefixes_of r ++ prefixes_of n)) (numbers_of u ++ (numbers_of r ++ numbers_of n))
     ∙ ap (λ (bs : List (Beside PrefixValue)). map received w ++ bs) (own_first u (prefixes_of r ++ prefixes_of n) (numbers_of r ++ numbers_of n)
-        ∙ ap (λ (bs : List (Beside PrefixValue)). map received u ++ bs) (own_first r (prefixes_of n) (numbers_of n)
-            ∙ ap (λ (bs : List (Beside PrefixValue)). map received r ++ bs) (own n)))
+    ∙ ap (λ (bs : List (Beside PrefixValue)). map received u ++ bs) (own_first r (prefixes_of n) (numbers_of n)
+    ∙ ap (λ (bs : List (Beside PrefixValue)). map received r ++ bs) (own n)))
 
 pub returns-clause-ip6 : goal.returns-clause-ip6
 returns-clause-ip6 c = λ w u u6 r r6 n.
