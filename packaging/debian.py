@@ -61,6 +61,14 @@ if command -v py3clean >/dev/null; then
 fi
 """
 
+# The scripts of `contrib` leave none, and who imports their modules as root does.
+PRERM_OF_CONTRIB = """#!/bin/sh
+set -e
+rm -rf /usr/share/doc/{name}/contrib/__pycache__
+"""
+
+SCRIPTS = {"python3-ristulva": {"postinst": POSTINST, "prerm": PRERM}, "ristulva": {"prerm": PRERM_OF_CONTRIB}}
+
 BUILT_BY = f"""Ristulva {VERSION} is built by the Rattle kit, which Debian doesn't have: rt, the command of the kit, has to be on the path
 (CONTRIBUTING.md). dpkg-buildpackage proves and builds all, in some 20 minutes on 4 cores and 9 GB of disk, and packs it.
 """
@@ -164,8 +172,8 @@ def symbols(path):
     return f"{SONAME} {LIBRARY} #MINVER#\n* Build-Depends-Package: libristulva-dev\n" + "".join(f" {name}@Base {VERSION}\n" for name in names)
 
 
-def scripts(name, about):
-    for script, text in (("postinst", POSTINST), ("prerm", PRERM)):
+def put_scripts(texts, name, about):
+    for script, text in texts.items():
         (about / script).write_text(text.format(name=name))
         (about / script).chmod(0o755)
 
@@ -197,8 +205,7 @@ def finish(name, target, folder, needs, time):
         (about / "shlibs").write_text(f"libristulva {SERIES} {name} (>= {VERSION})\n")
         (about / "symbols").write_text(symbols(folder / target.libdir.lstrip("/") / SONAME))
         (about / "triggers").write_text("activate-noawait ldconfig\n")
-    if name == "python3-ristulva":
-        scripts(name, about)
+    put_scripts(SCRIPTS.get(name, {}), name, about)
 
 
 def pack(name, target, tree, needs, made, time):

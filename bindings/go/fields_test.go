@@ -31,7 +31,7 @@ func TestFields(t *testing.T) {
 			t.Errorf("%v, and not %v", it, want)
 		}
 	}
-	if found[4].Kind.String() != "Withdrawn Routes" || FieldUnread != 44 || FieldUnread.String() != "unread" || FieldKind(46).String() != "" {
+	if found[4].Kind.String() != "Withdrawn Routes" || FieldUnread != 44 || FieldUnread.String() != "unread" || FieldKind(47).String() != "" {
 		t.Error("names of fields")
 	}
 }
