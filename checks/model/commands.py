@@ -267,7 +267,7 @@ def agreed_with_paths(sender, reader):
 
 
 # The commands that read path identifiers.
-READING_PATHS = (show, show_faults, check)
+READING_PATHS = (show, show_faults, check, narrow)
 
 
 def by_opens(command, theirs, given, is_hex=False, *more):

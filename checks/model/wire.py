@@ -91,7 +91,8 @@ def read_prefixes(width, octets, has_paths=False):
 
 
 def write_prefixes(prefixes):
-    return b"".join(bytes([length]) + spelled(width // 8, address)[: (length + 7) // 8] for width, length, address in prefixes)
+    """Each after its path identifier, where it has one."""
+    return b"".join(b"".join(spelled(4, it) for it in path) + bytes([length]) + spelled(width // 8, address)[: (length + 7) // 8] for width, length, address, *path in prefixes)
 
 
 def read_capabilities(value):

@@ -16,7 +16,7 @@ _bgp() {
                     show) words='--hex --as4 --ip4 --ip6 --internal --refresh --enhanced-refresh --paths --opens --only-faults --json -h --help' ;;
                     explain) words='--hex --as4 --ip4 --ip6 --internal --refresh --enhanced-refresh --paths --opens --only-faults --json -h --help' ;;
                     check) words='--hex --as4 --ip4 --ip6 --internal --refresh --enhanced-refresh --paths --opens -h --help' ;;
-                    narrow) words='--ip4 --ip6 --internal --refresh --enhanced-refresh --opens -h --help' ;;
+                    narrow) words='--ip4 --ip6 --internal --refresh --enhanced-refresh --paths --opens -h --help' ;;
                     clean) words='--hex --as4 --ip4 --ip6 --internal --refresh --enhanced-refresh --opens --drop --drop-unknown --pass -h --help' ;;
                     to-hex) words='--refresh -h --help' ;;
                     from-hex) words='-h --help' ;;

@@ -50,6 +50,7 @@ complete -c bgp -n '__fish_seen_subcommand_from narrow' -l ip6 -d 'IPv6 routes m
 complete -c bgp -n '__fish_seen_subcommand_from narrow' -l internal -d 'Both speakers are of one AS'
 complete -c bgp -n '__fish_seen_subcommand_from narrow' -l refresh -d 'The receiver offers ROUTE-REFRESH (RFC 2918)'
 complete -c bgp -n '__fish_seen_subcommand_from narrow' -l enhanced-refresh -d 'Both speakers offer enhanced ROUTE-REFRESH (RFC 7313)'
+complete -c bgp -n '__fish_seen_subcommand_from narrow' -l paths -x -d 'Routes of FAMILIES have path identifiers (RFC 7911)'
 complete -c bgp -n '__fish_seen_subcommand_from narrow' -l opens -r -F -d 'Agree by both OPENs: FILE has the other direction'
 complete -c bgp -n '__fish_seen_subcommand_from narrow' -s h -l help -d 'Print help'
 complete -c bgp -n '__fish_seen_subcommand_from clean' -l hex -d 'Read hexadecimal text instead of octets'

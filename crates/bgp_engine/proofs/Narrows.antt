@@ -1,14 +1,20 @@
 -- An UPDATE that is accepted with 4-octet AS numbers can be sent to a speaker with 2-octet ones.
-use Rattle.bgp_engine.proofs.Prelude.{◌≡◌, ◌≤◌, ◌+◌, ℕ, true, length, arith, List, Option, Some, None, Result, Ok, Err, refl, subst, le-ltb, AreOctets}
+use Rattle.bgp_engine.proofs.Prelude.{◌≡◌, ◌≤◌, ◌+◌, ◌∙◌, ℕ, true, length, arith, List, Option, Some, None, Result, Ok, Err, refl, sym, ap, subst, le-ltb, AreOctets}
 use Rattle.bgp_engine.proofs.Prelude.{IsLength, Context, Open, open_notification, reading_of, CanBeTold, written_body, verdict_of, of_open_fault, of_reading}
 use Rattle.bgp_engine.proofs.Prelude.{of_verdict, of_body}
+use Rattle.bgp_engine.specs.Below.{out_of}
+use Rattle.bgp_engine.specs.Narrow.{narrowed_body, narrowed_by, narrowed_with}
 use Rattle.bgp_frame.specs.declared.kind.Kind.{Kind}
+use Rattle.bgp_frame.specs.declared.kind.Kind.TheVariants as kinds
 use Rattle.bgp_frame.specs.declared.notification.Notification.{Notification}
 use Rattle.bgp_open.specs.declared.fault.OpenFault.{OpenFault}
 use Rattle.bgp_update.specs.declared.note.Note.{Note}
 use Rattle.bgp_update.specs.declared.update.Update.{Update}
 use Rattle.bgp_update.specs.declared.verdict.Verdict.{Verdict}
 use Rattle.bgp_update.proofs.Taken.{taken-written}
+use Rattle.bgp_update.specs.Prelude.{parts_of}
+use Rattle.bgp_paths.specs.declared.families.PathFamilies.{PathFamilies}
+use Rattle.bgp_paths.specs.Prelude.{FieldNumbers, as_received, fields_in, outcome_with, plain_body}
 use Rattle.bgp_msg.specs.declared.message.Message.{Message}
 use Rattle.bgp_msg.specs.declared.outcome.Outcome.{Outcome}
 
@@ -43,3 +49,24 @@ module _ (ctx : Context) (wide : ctx.as4 ≡ true) (u : Update) (notes : List No
   taken_told Kind.Update body octets allowed is = update_told body octets (omega (arith, allowed.most)) (verdict_of ctx body) refl is
   taken_told Kind.Notification body octets allowed is = absurd cc
   taken_told Kind.Keepalive body octets allowed is = absurd cc
+
+-- ---- an UPDATE whose routes have path identifiers
+
+-- what is accepted as received is accepted without path identifiers
+pub received_taken : (body : List ℕ) (o : Outcome) (m : Message) (notes : List Note) → as_received body o ≡ Outcome.Took m notes → o ≡ Outcome.Took m notes
+received_taken body (Outcome.Took said ns) m notes e = e
+received_taken body (Outcome.Withdraw routes ns) m notes e = absurd cc
+received_taken body (Outcome.Reset n) m notes e = absurd cc
+
+module _ (f : PathFamilies) (ctx : Context) (body plain : List ℕ) (is : plain ≡ plain_body f body) (o : Outcome) (comes : o ≡ as_received body (out_of ctx (record { kind = kinds.Update; body = plain }))) where
+  outcome_same : o ≡ outcome_with ctx f body
+  outcome_same = comes ∙ ap (λ (b : List ℕ). as_received body (out_of ctx (record { kind = kinds.Update; body = b }))) is
+
+  -- the narrowed UPDATE with the path identifiers of the message
+  pub narrowed_same : (ns : FieldNumbers) (u : Update) (notes : List Note) → ns ≡ fields_in f (parts_of body) → o ≡ Outcome.Took (Message.Update u) notes → narrowed_with f ns ctx u ≡ narrowed_body f ctx body
+  narrowed_same ns u notes numbers taken =
+      ap (λ (n : FieldNumbers). narrowed_with f n ctx u) numbers ∙ ap (narrowed_by f (fields_in f (parts_of body)) ctx) (sym taken ∙ outcome_same)
+
+  -- none of another outcome
+  pub narrowed_none : narrowed_by f (fields_in f (parts_of body)) ctx o ≡ None → narrowed_body f ctx body ≡ None
+  narrowed_none none = ap (narrowed_by f (fields_in f (parts_of body)) ctx) (sym outcome_same) ∙ none

@@ -26,7 +26,7 @@ any_plain = record { reads_paths = false; suits = λ _. true }
 
 -- those of them with 4-octet AS numbers
 abbrev pub any_as4 : Fit
-any_as4 = record { reads_paths = false; suits = λ terms. terms.context.as4 }
+any_as4 = record { reads_paths = true; suits = λ terms. terms.context.as4 }
 
 -- terms, where they are suitable
 abbrev pub fit_of : (Agreed → Bool) → Result Agreed NoContext → Result Agreed NoContext

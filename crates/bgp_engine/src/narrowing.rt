@@ -1,22 +1,26 @@
 //! The engine `narrow_stream`.
 
-ghost use Rattle.std.specs.Prelude.{◌≡◌, ◌+◌, ◌++◌, true, false, length, IfOk, OnOk};
+ghost use Rattle.std.specs.Prelude.{◌≡◌, ◌≤◌, ◌+◌, ◌++◌, true, false, length, IfOk, OnOk};
 ghost use Rattle.bgp_engine.specs.Below.{octets_of, IsLength, message_in};
 ghost use Rattle.bgp_engine.specs.Below.{out_of, narrowed_update, CanBeTold, update_value, with_as4};
 ghost use Rattle.bgp_msg.specs.declared.message.Message.TheVariants as message;
 ghost use Rattle.bgp_engine.specs.steps.PageSteps.{WritesNarrow};
 ghost use Rattle.bgp_engine.specs.Below.{wide_terms};
-ghost use Rattle.bgp_engine.specs.Narrow.{Narrowed, NarrowedUnder, written_in, narrowed_outcome};
+ghost use Rattle.bgp_frame.specs.declared.kind.Kind.{Kind};
+ghost use Rattle.bgp_paths.specs.Prelude.{body_with, field_numbers};
+ghost use Rattle.bgp_engine.specs.Narrow.{Narrowed, NarrowedUnder, message_with, narrowed_body, narrowed_outcome, narrowed_with, written_in};
 ghost use Rattle.bgp_engine.specs.Run.{Answers, io};
 
 use crate::class::Class;
 use crate::fault::ToolFault;
+use crate::identified::{is_identified, no_paths};
 use crate::page::Page;
 use crate::tally::Tally;
 use crate::walk::{walk_stream, walk_under};
-use bgp_frame::{End, Frame, HeadFault, Notification, head};
+use bgp_frame::{End, Frame, HeadFault, Kind, Notification, head};
 use bgp_msg::{OutcomeView, encode_narrowed, view_frame};
 use bgp_open::Context;
+use bgp_paths::{PathBody, PathFamilies, PathRuns, PlainBody, TooLong, path_runs, view_received};
 use bgp_refresh::{RefreshView, refresh_header};
 use bgp_terms::WideTerms;
 use bgp_update::{NarrowFault, UpdateView};
@@ -76,36 +80,141 @@ fn put_told(
     }
 }
 
+// Appends an UPDATE with this body, and these path identifiers before its routes.
+fn put_body_with(
+    families: PathFamilies,
+    runs: &PathRuns<'_>,
+    body: &[u8],
+    room: &mut PathBody,
+    octets: &mut Vec<u8>,
+) -> Result<Class, AllocError>
+    requires { 4 ≤ length body.now }
+    ensures { IfOk result (λ class. WritesNarrow octets.old.items octets.new.items (message_with (body_with families (field_numbers runs.now) body.now)) class) }
+{
+    match room.fill(families, runs, body) {
+        Ok(()) => {
+            octets.extend_from_slice(&head(Kind::Update, room.count() as u16))?;
+            octets.extend_from_slice(room.as_slice())?;
+            Ok(Class::Took)
+        }
+        Err(TooLong) => Ok(Class::Reset),
+    }
+}
+
+// Appends an accepted UPDATE as sent to a speaker with 2-octet AS numbers, with these path identifiers before its routes.
+fn put_view_with(
+    alloc: Global,
+    ctx: &Context,
+    families: PathFamilies,
+    runs: &PathRuns<'_>,
+    view: &UpdateView<'_>,
+    narrowed: &mut Vec<u8>,
+    room: &mut PathBody,
+    octets: &mut Vec<u8>,
+) -> Result<Class, AllocError>
+    requires { CanBeTold ctx.now (update_value view.now) }
+    ensures { IfOk result (λ class. WritesNarrow octets.old.items octets.new.items (narrowed_with families (field_numbers runs.now) ctx.now (update_value view.now)) class) }
+{
+    narrowed.clear();
+    match view.write_narrowed(alloc, ctx, narrowed) {
+        Ok(()) => put_body_with(families, runs, narrowed.as_slice(), room, octets),
+        Err(NarrowFault::Memory) => Err(AllocError),
+        Err(NarrowFault::TooLong) => Ok(Class::Reset),
+    }
+}
+
+// Appends an UPDATE whose routes have path identifiers, as it is passed on.
+fn put_identified(
+    alloc: Global,
+    ctx: &Context,
+    families: PathFamilies,
+    plain: &mut PlainBody,
+    narrowed: &mut Vec<u8>,
+    room: &mut PathBody,
+    body: &[u8],
+    octets: &mut Vec<u8>,
+) -> Result<Class, AllocError>
+    requires wide { ctx.now.as4 ≡ true }
+    requires long { IsLength Kind.Update (19 + length body.now) }
+    ensures { IfOk result (λ class. WritesNarrow octets.old.items octets.new.items (narrowed_body families ctx.now body.now) class) }
+{
+    plain.fill(families, body);
+    are_octets(plain.as_slice());
+    let mut place = UpdateView::empty();
+    match view_received(ctx, body, plain.as_slice(), &mut place) {
+        OutcomeView::Update(view) => {
+            let runs = path_runs(families, body);
+            put_view_with(alloc, ctx, families, &runs, view, narrowed, room, octets)
+        }
+        OutcomeView::Open(_)
+        | OutcomeView::Withdraw(_)
+        | OutcomeView::Notification(_)
+        | OutcomeView::Keepalive
+        | OutcomeView::Reset(_) => Ok(Class::Reset),
+    }
+}
+
 /// The octets that are passed on, in a session with 4-octet AS numbers.
 #[derive(Drop)]
 pub(crate) struct NarrowPage {
-    pub(crate) alloc: Global,
-    pub(crate) ctx: Context,
-    pub(crate) octets: Vec<u8>,
+    alloc: Global,
+    ctx: Context,
+    /// Whose routes have path identifiers.
+    families: PathFamilies,
+    /// The body of an UPDATE without them.
+    plain: PlainBody,
+    /// That body narrowed.
+    narrowed: Vec<u8>,
+    /// The narrowed body with them.
+    room: PathBody,
+    octets: Vec<u8>,
     ghost wide: { ctx.as4 ≡ true },
+}
+
+impl NarrowPage {
+    ghost use Rattle.std.specs.Prelude.{[]};
+
+    /// An empty page, of messages whose routes of these families have path identifiers.
+    pub(crate) fn new(alloc: Global, ctx: Context, families: PathFamilies) -> NarrowPage
+        requires { ctx.as4 ≡ true }
+        ensures context { result.ctx ≡ ctx }
+        ensures families { result.families ≡ families }
+        ensures empty { result.octets.items ≡ [] }
+    {
+        NarrowPage {
+            alloc,
+            ctx,
+            families,
+            plain: PlainBody::new(),
+            narrowed: Vec::new(alloc),
+            room: PathBody::new(),
+            octets: Vec::new(alloc),
+        }
+    }
 }
 
 impl Page for NarrowPage {
     ghost use Rattle.bgp_engine.specs.Agree.{any_as4};
     ghost use Rattle.std.specs.Prelude.{refl};
     ghost use Rattle.bgp_engine.specs.Below.{ℕ, List, Option};
-    ghost use Rattle.bgp_engine.specs.Narrow.{narrow_rules};
+    ghost use Rattle.bgp_engine.specs.Identified.{families_or};
+    ghost use Rattle.bgp_engine.specs.Narrow.{narrow_path_rules};
     ghost use Rattle.bgp_engine.specs.steps.Pages.{context_or, plain};
 
     ghost Outcome = { Option (List ℕ) };
 
-    ghost rules = { λ page. narrow_rules page.ctx };
+    ghost rules = { λ page. narrow_path_rules page.families page.ctx };
 
     ghost told = { λ page. page.octets.items };
 
     ghost fits = { any_as4 };
 
-    ghost plan = { λ page terms. plain (narrow_rules (context_or page.ctx terms)) };
+    ghost plan = { λ page terms. plain (narrow_path_rules (families_or page.families terms) (context_or page.ctx terms)) };
 
     ghost plainly = { λ _. refl };
 
     fn reads_paths(&self) -> bool {
-        false
+        true
     }
 
     fn agree(&mut self, terms: &WideTerms) -> bool {
@@ -113,6 +222,7 @@ impl Page for NarrowPage {
             return false;
         }
         self.ctx = terms.context;
+        self.families = PathFamilies::of(terms);
         true
     }
 
@@ -121,6 +231,18 @@ impl Page for NarrowPage {
     }
 
     fn message(&mut self, _place: u64, frame: Frame<'_>) -> Result<Class, AllocError> {
+        if is_identified(self.families, frame.kind) {
+            return put_identified(
+                self.alloc,
+                &self.ctx,
+                self.families,
+                &mut self.plain,
+                &mut self.narrowed,
+                &mut self.room,
+                frame.body,
+                &mut self.octets,
+            );
+        }
         put_told(self.alloc, &self.ctx, &mut self.octets, frame)
     }
 
@@ -206,15 +328,12 @@ pub fn narrow_within<R: Read, W: Write>(
     requires { ctx.now.as4 ≡ true }
     ensures { Answers (Narrowed ctx.now) false (io R.remaining input.old input.new W.contents output.old output.new) result }
 {
-    let page = NarrowPage {
-        alloc,
-        ctx: *ctx,
-        octets: Vec::new(alloc),
-    };
+    let page = NarrowPage::new(alloc, *ctx, no_paths());
     walk_stream(turns, false, page, input, output)
 }
 
-/// [`narrow_stream`] by what was negotiated: a ROUTE-REFRESH is passed on unchanged where the reader offers it.
+/// [`narrow_stream`] by what was negotiated: a ROUTE-REFRESH is passed on unchanged where the reader offers it, and routes keep their path identifiers where
+/// the terms say that they have some. An UPDATE with them that would have more than 4096 octets can't be written.
 ///
 /// # Errors
 /// As `narrow_stream`.
@@ -227,10 +346,6 @@ pub fn narrow_under<R: Read, W: Write>(
     requires { (wide_terms terms.now).context.as4 ≡ true }
     ensures { Answers (NarrowedUnder (wide_terms terms.now)) false (io R.remaining input.old input.new W.contents output.old output.new) result }
 {
-    let page = NarrowPage {
-        alloc,
-        ctx: terms.context,
-        octets: Vec::new(alloc),
-    };
+    let page = NarrowPage::new(alloc, terms.context, PathFamilies::of(terms));
     walk_under(u32::MAX, false, page, terms.refresh, input, output)
 }

@@ -129,11 +129,10 @@ pub fn check_by_opens_within<R: Read, W: Write>(
 }
 
 /// [`narrow_stream`](crate::narrow_stream) in the context that both OPENs agree on, as in [`show_by_opens`]: with
-/// 4-octet AS numbers.
+/// 4-octet AS numbers. Routes keep the path identifiers that both agree on.
 ///
 /// # Errors
-/// As `narrow_stream`; `NoContext` as in `show_by_opens`, where they don't agree on 4-octet AS numbers, and where they agree on path identifiers for the
-/// stream's routes.
+/// As `narrow_under`; `NoContext` as in `show_by_opens`, and where they don't agree on 4-octet AS numbers.
 pub fn narrow_by_opens<R: Read, W: Write>(
     alloc: Global,
     theirs: &[u8],
@@ -158,10 +157,6 @@ pub fn narrow_by_opens_within<R: Read, W: Write>(
 ) -> Result<Tally, ToolFault>
     ensures { Answers (NarrowedBy theirs.now) false (io R.remaining input.old input.new W.contents output.old output.new) result }
 {
-    let page = NarrowPage {
-        alloc,
-        ctx: UNKNOWN,
-        octets: Vec::new(alloc),
-    };
+    let page = NarrowPage::new(alloc, UNKNOWN, no_paths());
     open_stream(alloc, turns, theirs, false, page, input, output)
 }

@@ -63,7 +63,7 @@ pub two_or_one : (t : Bool) (n : ℕ) → length (cond t (to_be_bytes w16 n) (n 
 two_or_one true n = refl
 two_or_one false n = refl
 
-tlv_length : (flags kind : ℕ) (value : List ℕ) → length (tlv_octets flags kind value) ≡ 2 + length_width flags + length value
+pub tlv_length : (flags kind : ℕ) (value : List ℕ) → length (tlv_octets flags kind value) ≡ 2 + length_width flags + length value
 tlv_length flags kind value = omega (arith, two_or_one (is_extended flags) (length value), length-append (length_octets flags (length value)) value)
 
 whole_length : (t : TlvValue) (b : List ℕ) → IsTlv t b → length b ≡ 2 + length_width t.flags + length t.value
@@ -119,15 +119,15 @@ pub whole_within : (field : List ℕ) (at : ℕ) (t : TlvValue) → tlv_at field
 whole_within field at t is = omega (arith, (within_at (drop at field) t (one_tlv (drop at field)) refl is).1, length-drop at field)
 
 -- with their offsets or without
-pub placed_octets : (f : PathFamilies) (at : ℕ) (ts : List TlvValue) → flat_map (λ p. plain_tlv f p.tlv) (placed_from at ts) ≡ flat_map (plain_tlv f) ts
-placed_octets f at [] = refl
-placed_octets f at (t ∷ ts) =
-    flat_map-cons (λ p. plain_tlv f p.tlv) (record { at = at; tlv = t }) (placed_from (at + length t.whole) ts)
-    ∙ ap (λ (b : List ℕ). plain_tlv f t ++ b) (placed_octets f (at + length t.whole) ts)
-    ∙ sym (flat_map-cons (plain_tlv f) t ts)
+pub placed_octets : (g : TlvValue → List ℕ) (at : ℕ) (ts : List TlvValue) → flat_map (λ p. g p.tlv) (placed_from at ts) ≡ flat_map g ts
+placed_octets g at [] = refl
+placed_octets g at (t ∷ ts) =
+    flat_map-cons (λ p. g p.tlv) (record { at = at; tlv = t }) (placed_from (at + length t.whole) ts)
+    ∙ ap (λ (b : List ℕ). g t ++ b) (placed_octets g (at + length t.whole) ts)
+    ∙ sym (flat_map-cons g t ts)
 
 -- the octets of the first attribute that is left, and those of the others
-pub left_first : (f : PathFamilies) (p : PlacedTlv) (ps : List PlacedTlv) (rest : List ℕ)
-    → flat_map (λ q. plain_tlv f q.tlv) (p ∷ ps) ++ rest ≡ plain_tlv f p.tlv ++ (flat_map (λ q. plain_tlv f q.tlv) ps ++ rest)
-left_first f p ps rest =
-    ap (λ (b : List ℕ). b ++ rest) (flat_map-cons (λ q. plain_tlv f q.tlv) p ps) ∙ append_assoc (plain_tlv f p.tlv) (flat_map (λ q. plain_tlv f q.tlv) ps) rest
+pub left_first : (g : TlvValue → List ℕ) (p : PlacedTlv) (ps : List PlacedTlv) (rest : List ℕ)
+    → flat_map (λ q. g q.tlv) (p ∷ ps) ++ rest ≡ g p.tlv ++ (flat_map (λ q. g q.tlv) ps ++ rest)
+left_first g p ps rest =
+    ap (λ (b : List ℕ). b ++ rest) (flat_map-cons (λ q. g q.tlv) p ps) ∙ append_assoc (g p.tlv) (flat_map (λ q. g q.tlv) ps) rest

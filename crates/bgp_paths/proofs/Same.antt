@@ -76,7 +76,7 @@ runs_whole width b octets =
 
 -- ---- attributes
 
-counted_at : (t : Bool) (n : ℕ) → n < 2 ^ 16 → n ≡ number_of_length (cond t (to_be_bytes w16 n) (n ∷ []))
+pub counted_at : (t : Bool) (n : ℕ) → n < 2 ^ 16 → n ≡ number_of_length (cond t (to_be_bytes w16 n) (n ∷ []))
 counted_at true n lt = sym (from_be_bytes-to_be_bytes_2 n lt)
 counted_at false n lt = refl
 

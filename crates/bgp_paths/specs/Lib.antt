@@ -6,5 +6,6 @@ pub mod Plain
 pub mod Places
 pub mod Runs
 pub mod Numbers
+pub mod PathBody
 pub mod Outcome
 pub mod Prelude

@@ -8,3 +8,4 @@ pub use Rattle.bgp_paths.specs.Runs.{ArePartRuns, AreRuns, attribute_run, attrib
 pub use Rattle.bgp_paths.specs.Places.{carries, data_in, first_of_type, first_tlv, place_between, place_in_parts, received_in, shift_between, shift_by, shift_value, shifted, type_at}
 pub use Rattle.bgp_paths.specs.Numbers.{PathNumbers, attribute_numbers, family_numbers, no_numbers, numbers4, numbers6, numbers_behind, numbers_in, path_numbers}
 pub use Rattle.bgp_paths.specs.Outcome.{as_received, outcome_with}
+pub use Rattle.bgp_paths.specs.PathBody.{FieldNumbers, body_of, body_with, field_numbers, field_with, fields_in, mp_flags, mp_tlv, no_field_numbers, numbers_for, octets_with, paired, parts_with, route_octets, routes_with, run_with, tlv_at_head, tlv_behind, tlv_with, with_numbers}

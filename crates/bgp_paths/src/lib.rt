@@ -5,7 +5,10 @@ mod changing;
 mod families;
 pub mod laws;
 mod outcome;
+mod path_body;
+mod path_field;
 mod path_iter;
+mod path_routes;
 mod places;
 mod plain_body;
 mod plain_field;
@@ -15,6 +18,7 @@ mod runs;
 
 pub use families::PathFamilies;
 pub use outcome::view_received;
+pub use path_body::{PathBody, TooLong};
 pub use path_iter::PathIter;
 pub use places::{PathShifts, data_received};
 pub use plain_body::PlainBody;

@@ -11,7 +11,7 @@ use bgp_attr::{Tail, TlvIter};
 use bgp_wire::Page;
 
 /// The octets of what follows the last whole attribute.
-fn octets_of_tail(tail: Tail<'_>) -> &[u8]
+pub(crate) fn octets_of_tail(tail: Tail<'_>) -> &[u8]
     ensures { (rest : List ℕ) → IsTail rest tail.entry → result.now ≡ rest }
 {
     match tail {

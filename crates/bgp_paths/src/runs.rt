@@ -6,6 +6,7 @@ ghost use Rattle.bgp_attr.specs.Prelude.{tlv_value};
 ghost use Rattle.bgp_update.specs.Prelude.{parts_of};
 ghost use Rattle.bgp_paths.specs.declared.families.Width.TheVariants as width;
 ghost use Rattle.bgp_paths.specs.Numbers.{attribute_numbers, numbers4, numbers6, numbers_in, path_numbers};
+ghost use Rattle.bgp_paths.specs.PathBody.{field_numbers, fields_in};
 ghost use Rattle.bgp_paths.specs.Places.{first_tlv};
 ghost use Rattle.bgp_paths.specs.Runs.{AreRuns, attribute_run, field_run, numbers_of, run_of_type, runs_value};
 
@@ -155,6 +156,7 @@ fn first_run(families: PathFamilies, field: &[u8], kind: u8) -> PathRun<'_>
 pub fn path_runs(families: PathFamilies, body: &[u8]) -> PathRuns<'_>
     ensures runs { AreRuns families body.entry.now result }
     ensures numbers { path_numbers result ≡ numbers_in families (parts_of body.entry.now) }
+    ensures fields { field_numbers result ≡ fields_in families (parts_of body.entry.now) }
 {
     match split_body(body) {
         None => PathRuns {

@@ -3,6 +3,7 @@
 ghost use Rattle.std.specs.Prelude.{◌≤◌, length};
 
 use crate::families::PathFamilies;
+use crate::path_body::PathBody;
 use crate::places::{PathShifts, data_received};
 use crate::plain_body::PlainBody;
 use crate::runs::path_runs;
@@ -106,4 +107,28 @@ fn offsets_after_identifiers(rt: HostRuntime) {
     assert!(rt; gone.place(7) == 15 && gone.place(19) == 35);
     assert!(rt; data_received(&GONE, &PLAIN_GONE[7..]) == &GONE[15..]);
     assert!(rt; data_received(&ANNOUNCED, &[64, 1, 1, 3]) == [64, 1, 1, 3].as_slice());
+}
+
+/// Whether a body gets the path identifiers of the one that was received, and is that one then.
+fn is_written_back(families: PathFamilies, received: &[u8], plain: &[u8]) -> bool {
+    let mut body = PathBody::new();
+    match body.fill(families, &path_runs(families, received), plain) {
+        Ok(()) => body.as_slice() == received,
+        Err(_) => false,
+    }
+}
+
+#[test]
+fn each_route_gets_its_identifier_back(rt: HostRuntime) {
+    assert!(rt; is_written_back(BOTH, &ANNOUNCED, &PLAIN));
+    assert!(rt; is_written_back(BOTH, &GONE, &PLAIN_GONE));
+}
+
+#[test]
+fn a_body_can_be_too_long_with_identifiers(rt: HostRuntime) {
+    // 4,073 routes to 0.0.0.0/0, of five octets each
+    let routes = [0; 4077];
+    let mut body = PathBody::new();
+    assert!(rt; body.fill(IP4, &path_runs(IP4, &GONE), &routes).is_err());
+    assert!(rt; body.as_slice().is_empty());
 }

@@ -65,9 +65,13 @@ with_input a = with_flag (with_flag a (codes "hex")) (codes "as4")
 abbrev pub with_judging : App → App
 with_judging a = with_session (with_input a)
 
--- the flags of one that reads path identifiers
+-- the session of a command that reads path identifiers
+abbrev pub with_path_session : App → App
+with_path_session a = with_opens (with_paths (with_refreshes (with_families a)))
+
+-- the flags of one that prints what they are
 abbrev pub with_reading : App → App
-with_reading a = with_opens (with_paths (with_refreshes (with_families (with_input a))))
+with_reading a = with_path_session (with_input a)
 
 -- the attributes that are left out: by type, or all unrecognised ones except those that pass
 abbrev pub with_dropping : App → App
@@ -114,7 +118,7 @@ judging_commands = with_command printing_commands check_command
 
 -- the commands that read a stream
 abbrev pub rewriting_commands : App
-rewriting_commands = with_command (with_command judging_commands (with_session (new_app (codes "narrow")))) clean_command
+rewriting_commands = with_command (with_command judging_commands (with_path_session (new_app (codes "narrow")))) clean_command
 
 abbrev pub to_hex_command : App
 to_hex_command = with_refresh (new_app (codes "to-hex"))

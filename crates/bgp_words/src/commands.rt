@@ -3,7 +3,7 @@
 ghost use Rattle.std.specs.Prelude.{◌≡◌, codes, false, IfOk};
 ghost use Rattle.clap.specs.Words.{app_of, rule_of, new_app};
 ghost use Rattle.clap.specs.declared.builder.command.Command.TheViews.{out-Command};
-ghost use Rattle.bgp_words.specs.CommandLine.{flag_rule, with_flag, option_rule, with_option, with_families, with_refresh, with_refreshes, with_paths, with_opens, with_session, with_input, with_judging, with_reading, with_dropping, clean_command, with_printing, show_command, explain_command, check_command, with_command, bare_command, printing_commands, judging_commands, file_rule, loop_command, to_hex_command, stream_commands, bgp_command};
+ghost use Rattle.bgp_words.specs.CommandLine.{flag_rule, with_flag, option_rule, with_option, with_families, with_refresh, with_refreshes, with_paths, with_opens, with_session, with_path_session, with_input, with_judging, with_reading, with_dropping, clean_command, with_printing, show_command, explain_command, check_command, with_command, bare_command, printing_commands, judging_commands, file_rule, loop_command, to_hex_command, stream_commands, bgp_command};
 
 use crate::help::{
     CHECK_HELP, CLEAN_HELP, EXPLAIN_HELP, FROM_HEX_HELP, HELP, LOOP_HELP, NARROW_HELP, SHOW_HELP,
@@ -187,14 +187,23 @@ fn with_judging<'a>(alloc: Global, command: Command<'a>) -> Result<Command<'a>, 
     with_session(alloc, command)
 }
 
-// A command with the flags of one that reads path identifiers.
+// A command with the flags that give the session, of one that reads path identifiers.
+fn with_path_session<'a>(alloc: Global, command: Command<'a>) -> Result<Command<'a>, AllocError>
+    ensures shape { IfOk result (λ c. app_of c ≡ with_path_session (app_of command.entry)) }
+    ensures local { IfOk result (λ c. (out-Command c).has_globals ≡ (out-Command command.entry).has_globals) }
+{
+    let command = with_refreshes(alloc, with_families(alloc, command)?)?;
+    let command = with_paths(alloc, command)?;
+    with_opens(alloc, command)
+}
+
+// A command with the flags of one that prints messages, path identifiers too.
 fn with_reading<'a>(alloc: Global, command: Command<'a>) -> Result<Command<'a>, AllocError>
     ensures shape { IfOk result (λ c. app_of c ≡ with_reading (app_of command.entry)) }
     ensures local { IfOk result (λ c. (out-Command c).has_globals ≡ (out-Command command.entry).has_globals) }
 {
-    let command = with_families(alloc, with_input(alloc, command)?)?;
-    let command = with_paths(alloc, with_refreshes(alloc, command)?)?;
-    with_opens(alloc, command)
+    let command = with_input(alloc, command)?;
+    with_path_session(alloc, command)
 }
 
 // A command with the flags of one that leaves out attributes.
@@ -353,7 +362,7 @@ pub(crate) fn check<'a>(alloc: Global) -> Result<Command<'a>, AllocError>
 
 /// The command that narrows.
 pub(crate) fn narrow<'a>(alloc: Global) -> Result<Command<'a>, AllocError>
-    ensures shape { IfOk result (λ c. app_of c ≡ with_session (new_app (codes "narrow"))) }
+    ensures shape { IfOk result (λ c. app_of c ≡ with_path_session (new_app (codes "narrow"))) }
     ensures local { IfOk result (λ c. (out-Command c).has_globals ≡ false) }
 {
     let narrow = named(
@@ -362,7 +371,7 @@ pub(crate) fn narrow<'a>(alloc: Global) -> Result<Command<'a>, AllocError>
         "Rewrite a session for a speaker with two octets for an AS number",
         NARROW_HELP,
     );
-    with_session(alloc, narrow)
+    with_path_session(alloc, narrow)
 }
 
 /// The command that cleans.
@@ -409,7 +418,7 @@ fn with_check<'a>(alloc: Global, command: Command<'a>) -> Result<Command<'a>, Al
 
 // A command with the one that narrows.
 fn with_narrow<'a>(alloc: Global, command: Command<'a>) -> Result<Command<'a>, AllocError>
-    ensures { IfOk result (λ c. app_of c ≡ with_command (app_of command.entry) (with_session (new_app (codes "narrow")))) }
+    ensures { IfOk result (λ c. app_of c ≡ with_command (app_of command.entry) (with_path_session (new_app (codes "narrow")))) }
 {
     with_command(command, narrow(alloc)?)
 }

@@ -31,6 +31,7 @@ pub fn words_have_one_meaning()
     ensures check_paths { CanBeDone (codes "check" ∷ codes "--paths" ∷ codes "ip6" ∷ codes "--ip6" ∷ []) (Check (session_with (record (flags false false) { ip6 = true }) refreshes.None false true) false) }
     ensures check_both { CanBeDone (codes "check" ∷ codes "--refresh" ∷ codes "--paths" ∷ codes "ip6,ip4" ∷ []) (Check (session_with (flags false false) refreshes.Plain true true) false) }
     ensures narrow { CanBeDone (codes "narrow" ∷ []) (Narrow (by_flags true false)) }
+    ensures narrow_paths { CanBeDone (codes "narrow" ∷ codes "--paths" ∷ codes "ip4,ip6" ∷ []) (Narrow (session_with (flags true false) refreshes.None true true)) }
     ensures narrow_all { CanBeDone (codes "narrow" ∷ codes "--ip4" ∷ codes "--ip6" ∷ codes "--internal" ∷ codes "--refresh" ∷ codes "--enhanced-refresh" ∷ []) (Narrow (by_flags true true)) }
     ensures show_opens { CanBeDoneWith (codes "show" ∷ codes "--opens" ∷ codes "theirs" ∷ codes "--hex" ∷ []) (Show Opens true false false) (codes "theirs") }
     ensures check_opens { CanBeDoneWith (codes "check" ∷ codes "--opens=theirs" ∷ []) (Check Opens false) (codes "theirs") }
@@ -75,7 +76,6 @@ pub fn words_can_be_wrong()
     ensures no_family { faults_of (codes "show" ∷ codes "--paths" ∷ codes "ip5" ∷ []) ≡ error.InvalidValue ∷ [] }
     ensures family_twice { faults_of (codes "check" ∷ codes "--paths=ip4,ip4" ∷ []) ≡ error.InvalidValue ∷ [] }
     ensures families_apart { faults_of (codes "show" ∷ codes "--paths" ∷ codes "ip4, ip6" ∷ []) ≡ error.InvalidValue ∷ [] }
-    ensures paths_narrow { faults_of (codes "narrow" ∷ codes "--paths" ∷ codes "ip4" ∷ []) ≡ error.UnknownArgument ∷ [] }
     ensures paths_clean { faults_of (codes "clean" ∷ codes "--paths" ∷ codes "ip4" ∷ []) ≡ error.UnknownArgument ∷ [] }
     ensures paths_to_hex { faults_of (codes "to-hex" ∷ codes "--paths" ∷ codes "ip4" ∷ []) ≡ error.UnknownArgument ∷ [] }
     ensures no_value { faults_of (codes "check" ∷ codes "--opens" ∷ []) ≡ error.InvalidValue ∷ [] }

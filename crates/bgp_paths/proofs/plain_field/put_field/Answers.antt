@@ -12,7 +12,7 @@ field-init c =
     let field = c.args.field.now in
     record {
       whole = ap₂ (λ (ps : List PlacedTlv) (rest : List ℕ). c.args.out.now ++ (flat_map (λ p. plain_tlv f p.tlv) ps ++ rest)) c.new-tlvs.ensures.attributes c.new-tlvs.ensures.rest
-          ∙ ap (λ (b : List ℕ). c.args.out.now ++ (b ++ (tlvs_of field).1)) (placed_octets f 0 (tlvs_of field).0);
+          ∙ ap (λ (b : List ℕ). c.args.out.now ++ (b ++ (tlvs_of field).1)) (placed_octets (plain_tlv f) 0 (tlvs_of field).0);
       field = c.new-tlvs.ensures.field;
     }
 
@@ -26,7 +26,7 @@ put_tlv-requires-clause-room c =
     let f = c.args.families in
     let later = flat_map (λ p. plain_tlv f p.tlv) (tlvs_left c.next.new.self) ++ rest_left c.field.tlvs in
     let left = ap (λ (ps : List PlacedTlv). flat_map (λ p. plain_tlv f p.tlv) ps ++ rest_left c.field.tlvs) c.in-Some.ensures.steps.0
-    ∙ left_first f (placed_tlv c.in-Some.tlv) (tlvs_left c.next.new.self) (rest_left c.field.tlvs) in
+    ∙ left_first (plain_tlv f) (placed_tlv c.in-Some.tlv) (tlvs_left c.next.new.self) (rest_left c.field.tlvs) in
     omega (
       arith,
       c.requires.room,
@@ -43,7 +43,7 @@ field-preserved c =
     let step = c.in-Some.ensures.steps in
     let later = flat_map (λ p. plain_tlv f p.tlv) (tlvs_left c.next.new.self) ++ rest_left c.field.tlvs in
     let left = ap (λ (ps : List PlacedTlv). flat_map (λ p. plain_tlv f p.tlv) ps ++ rest_left c.field.tlvs) step.0
-    ∙ left_first f (placed_tlv c.in-Some.tlv) (tlvs_left c.next.new.self) (rest_left c.field.tlvs) in
+    ∙ left_first (plain_tlv f) (placed_tlv c.in-Some.tlv) (tlvs_left c.next.new.self) (rest_left c.field.tlvs) in
     record {
       whole = ap₂ (λ (b rest : List ℕ). b ++ (flat_map (λ p. plain_tlv f p.tlv) (tlvs_left c.next.new.self) ++ rest)) c.put_tlv.ensures (sym step.1)
           ∙ append_assoc c.field.out (plain_tlv f (tlv_value c.in-Some.tlv)) later ∙ ap (λ (b : List ℕ). c.field.out ++ b) (sym left) ∙ c.field.invariant.whole;

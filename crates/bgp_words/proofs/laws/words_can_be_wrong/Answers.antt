@@ -137,10 +137,6 @@ pub returns-clause-families_apart : goal.returns-clause-families_apart
 unfolding clap_on_literals
 returns-clause-families_apart c = refl
 
-pub returns-clause-paths_narrow : goal.returns-clause-paths_narrow
-unfolding clap_on_literals
-returns-clause-paths_narrow c = refl
-
 pub returns-clause-paths_clean : goal.returns-clause-paths_clean
 unfolding clap_on_literals
 returns-clause-paths_clean c = refl

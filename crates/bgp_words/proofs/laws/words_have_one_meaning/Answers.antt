@@ -25,6 +25,10 @@ pub returns-clause-narrow : goal.returns-clause-narrow
 unfolding clap_on_literals
 returns-clause-narrow c = record { without_fault = refl; asked = λ drops. refl; left_out = refl }
 
+pub returns-clause-narrow_paths : goal.returns-clause-narrow_paths
+unfolding clap_on_literals
+returns-clause-narrow_paths c = record { without_fault = refl; asked = λ drops. refl; left_out = refl }
+
 pub returns-clause-narrow_all : goal.returns-clause-narrow_all
 unfolding clap_on_literals
 returns-clause-narrow_all c = record { without_fault = refl; asked = λ drops. refl; left_out = refl }

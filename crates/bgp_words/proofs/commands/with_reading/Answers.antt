@@ -1,9 +1,0 @@
-use Rattle.bgp_words.proofs.Prelude.{ap, ◌∙◌, IfOk-weaker, App, with_families, with_opens, with_paths, with_refreshes}
-use Rattle.bgp_words.proofs.commands.with_reading.Goals as goal
-
-pub returns-clause-shape : goal.returns-clause-shape
-returns-clause-shape c =
-    IfOk-weaker c.with_opens.result _ _
-    (λ r is. is ∙ ap (λ (a : App). with_opens a) (c.in_ok-command-2.ensures.shape ∙ ap (λ (a : App). with_paths a) (c.in_ok-with_refreshes.ensures.shape
-    ∙ ap (λ (a : App). with_refreshes a) (c.in_ok-command.ensures.shape ∙ ap (λ (a : App). with_families a) c.in_ok-with_input.ensures.shape))))
-    c.with_opens.ensures.shape
