@@ -16,9 +16,8 @@ use Rattle.bgp_engine.specs.Show.{class_of}
 use Rattle.bgp_engine.specs.Tally.{no_tally}
 use Rattle.bgp_engine.specs.Wide.{wide_rules}
 
--- how a message in a context is printed: by its offset, its length, its octets, what is at fault, and its outcome; how an UPDATE is whose routes of
--- these families have path identifiers, by its octets and what is at fault; how a ROUTE-REFRESH that is accepted is: by its offset, its length, its octets and what it says; and how
--- the end is
+-- how messages are printed: one in a context, by its offset, length, octets, fault and outcome; an UPDATE whose routes of these families have path
+-- identifiers, by its octets and fault; a ROUTE-REFRESH that is accepted, by its offset, length, octets and what it says; and the end
 pub record Form : Type 0 where
   pub message : Context → ℕ → ℕ → List ℕ → Option Fault → Outcome → List ℕ
   pub identified : Context → PathFamilies → List ℕ → Option Fault → Showing
@@ -84,7 +83,7 @@ fault_between ctx f body bare received _ = None
 abbrev pub identified_fault : Context → PathFamilies → List ℕ → Outcome → Option Fault
 identified_fault ctx f body o = fault_between ctx f body (plain_body f body) (received_at f body) o
 
--- the text of one of these octets
+-- the text of an UPDATE with these octets and this body
 abbrev pub identified_text : Form → Chosen → PathFamilies → Context → ℕ → ℕ → List ℕ → List ℕ → Outcome → List ℕ
 identified_text form printed f ctx place len octets body o =
     shown_body (where_chosen printed (form.identified ctx f octets (identified_fault ctx f body o))) f ctx place len body o
