@@ -114,7 +114,7 @@ func (message *Message) Facts() *Facts {
 
 // Agree gives what two speakers agree on, given octets that begin with the OPEN of each: the context of their session, and its Hold Time in seconds, 0
 // for none; as `bgp show --opens` finds it. ErrIncomplete or ErrRefused: one of them isn't an accepted OPEN. Neither is refused for what it says.
-// A direction for which both agree on path identifiers (capability 69; RFC 7911) is read by TermsOf and WithoutPaths.
+// A direction for which both agree on path identifiers (capability 69; RFC 7911) is read by TermsOf and JudgePaths.
 func Agree(ours, theirs []byte) (Context, uint16, error) {
 	var said C.ristulva_context
 	var hold C.uint16_t

@@ -57,12 +57,13 @@ func (verdict Verdict) String() string {
 // Message is a message that was judged, or a header with a fault. It has octets of its own. A ROUTE-REFRESH, which only Terms have, has neither fields
 // nor a section.
 type Message struct {
-	octets  []byte
-	context Context
-	terms   *Terms // nil where it was judged in a context
-	place   uint64
-	found   C.ristulva_verdict
-	data    []byte
+	octets   []byte
+	received []byte // nil where it is the same
+	context  Context
+	terms    *Terms // nil where it was judged in a context
+	place    uint64
+	found    C.ristulva_verdict
+	data     []byte
 }
 
 // Judge gives the message that octets begin with, or ErrIncomplete where they are less than one. Of a header with a fault it has the header.
@@ -111,6 +112,15 @@ func Messages(context Context, octets []byte) (messages []*Message, rest []byte)
 
 // Octets are those of the message, or of the header that has a fault.
 func (message *Message) Octets() []byte { return cloned(message.octets) }
+
+// Received are the octets as they were received: by JudgePaths with path identifiers, else those of Octets. The next message of the stream follows them,
+// where the header has no fault.
+func (message *Message) Received() []byte {
+	if message.received == nil {
+		return cloned(message.octets)
+	}
+	return cloned(message.received)
+}
 
 // Place is the message's offset in its stream.
 func (message *Message) Place() uint64 { return message.place }
@@ -165,7 +175,7 @@ func (message *Message) writeText(text []byte) (written C.size_t, status C.ristu
 		said := message.context.said()
 		status = C.ristulva_text(&said, place, at, size, into, room, &written)
 	} else {
-		said := message.terms.said()
+		said := message.terms.plain().said()
 		status = C.ristulva_text_in(&said, place, at, size, into, room, &written)
 	}
 	return written, status

@@ -3,7 +3,10 @@ package ristulva
 // #include "list.h"
 import "C"
 
-import "unsafe"
+import (
+	"encoding/binary"
+	"unsafe"
+)
 
 // Refreshes is which ROUTE-REFRESH a reader accepts.
 type Refreshes uint8
@@ -23,6 +26,41 @@ const (
 
 // PathsMax is the most path identifiers of a message.
 const PathsMax = C.RISTULVA_PATHS
+
+// JudgePaths gives the message that octets begin with, as JudgeIn does, but for an UPDATE whose routes have path identifiers by the terms (RFC 7911): that
+// is judged without them, and an attribute that is data of the NOTIFICATION is the one that was received (RFC 7606, section 5.3). All else but Received is
+// of the message that WithoutPaths gives, and Paths has the identifiers of its routes. ErrIncomplete; ErrTerms: Refresh is none of its numbers.
+func JudgePaths(terms Terms, octets []byte) (*Message, error) {
+	plain, err := WithoutPaths(terms, octets)
+	length := headerLen
+	switch err {
+	case nil:
+		length = int(binary.BigEndian.Uint16(octets[16:18]))
+	case ErrRefused: // a header with a fault is judged as it is
+		plain = octets
+	default:
+		return nil, err
+	}
+	message, err := judgedIn(terms.plain(), plain, 0)
+	if err != nil {
+		return nil, err
+	}
+	message.terms, message.received = &terms, cloned(octets[:length])
+	if message.Verdict() == Reset {
+		message.data = dataWithPaths(terms, message.received)
+	}
+	return message, nil
+}
+
+// The data of the NOTIFICATION that answers a message: an attribute as it was received.
+func dataWithPaths(terms Terms, octets []byte) []byte {
+	var data [dataMax]byte
+	var found C.ristulva_verdict
+	said := terms.said()
+	at, size := octetsOf(octets)
+	C.ristulva_judge_paths(&said, at, size, (*C.uint8_t)(unsafe.Pointer(&data[0])), dataMax, &found)
+	return cloned(data[:found.data_len])
+}
 
 // WithoutPaths gives the message that octets begin with, without the path identifiers that its routes have by the terms (RFC 7911), for each function
 // that takes a context. Another message than an UPDATE is as it was. ErrIncomplete; ErrRefused: its header has a fault; ErrTerms: Refresh is none of its
@@ -71,7 +109,7 @@ type Terms struct {
 	Refresh      Refreshes // which ROUTE-REFRESH is accepted
 	LongMessages bool      // the reader accepts messages of up to 65535 octets (capability 6; RFC 8654)
 	LongBack     bool      // the sender does: NOTIFICATIONs to it may be that long
-	Paths4       bool      // IPv4 unicast routes have path identifiers (capability 69; RFC 7911): Paths has them
+	Paths4       bool      // IPv4 unicast routes have path identifiers (capability 69; RFC 7911): JudgePaths reads such a message
 	Paths6       bool      // IPv6 unicast routes have path identifiers
 	Hop6         bool      // IPv4 unicast routes may have an IPv6 next hop (capability 5; RFC 8950)
 }
@@ -81,6 +119,12 @@ func (terms Terms) said() C.ristulva_terms {
 		context: terms.Context.said(), refresh: C.uint8_t(terms.Refresh), long_messages: number(terms.LongMessages), long_back: number(terms.LongBack),
 		paths4: number(terms.Paths4), paths6: number(terms.Paths6), hop6: number(terms.Hop6),
 	}
+}
+
+// The same, but for path identifiers, which no route has.
+func (terms Terms) plain() Terms {
+	terms.Paths4, terms.Paths6 = false, false
+	return terms
 }
 
 func contextOf(said C.ristulva_context) Context {
@@ -172,7 +216,7 @@ func (message *Message) Refresh() *RouteRefresh {
 		return nil
 	}
 	var it C.ristulva_refresh
-	said := message.terms.said()
+	said := message.terms.plain().said()
 	at, size := octetsOf(message.octets)
 	if C.ristulva_refresh_in(&said, at, size, &it) != C.RISTULVA_OK {
 		return nil

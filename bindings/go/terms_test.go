@@ -1,6 +1,7 @@
 package ristulva
 
 import (
+	"bytes"
 	"errors"
 	"fmt"
 	"reflect"
@@ -93,7 +94,128 @@ func TestPaths(t *testing.T) {
 	}
 }
 
-// No message is judged where routes have path identifiers, or where a number is none of those that are named.
+// ORIGIN and AS_PATH, NEXT_HOP, and the value of MP_REACH_NLRI up to its routes.
+const originPath, nextHop, reachHop = "40010100 40020602010000fde8", "400304c0000201", "000201 10 20010db8000000000000000000000001 00"
+
+// By terms by which routes of these families have path identifiers.
+func identified(paths4, paths6 bool) Terms {
+	return Terms{Context: both, Paths4: paths4, Paths6: paths6}
+}
+
+// The message that octets are: octets after it are ignored, and it is incomplete with one octet less.
+func judgedPaths(t *testing.T, terms Terms, octets []byte) *Message {
+	found, err := JudgePaths(terms, append(append([]byte{}, octets...), 255))
+	if err != nil || !bytes.Equal(found.Received(), octets) || *found.Terms() != terms || found.Context() != both || found.Place() != 0 {
+		t.Fatalf("%v and %v of %x", found, err, octets)
+	}
+	if again, err := JudgePaths(terms, octets); err != nil || !reflect.DeepEqual(told(again), told(found)) {
+		t.Errorf("%v and %v instead of %v", again, err, found)
+	}
+	if again, err := JudgePaths(terms, octets[:len(octets)-1]); again != nil || !errors.Is(err, ErrIncomplete) {
+		t.Errorf("%v and %v", again, err)
+	}
+	return found
+}
+
+// An UPDATE is judged without the path identifiers of its routes (RFC 7911, section 3), each family for itself (section 4): all but what was received is
+// that of the message without them.
+func TestJudgePaths(t *testing.T) {
+	for _, it := range []struct {
+		terms       Terms
+		with, plain string
+		verdict     Verdict
+		paths       []uint32
+	}{
+		{identified(true, true), "0000 0035" + originPath + nextHop + "800e1e" + reachHop + "00000009 2020010db8 00000001 080a",
+			"0000 0031" + originPath + nextHop + "800e1a" + reachHop + "2020010db8 080a", Update, []uint32{9, 1}},
+		{identified(true, true), "0000 0035 40010103 40020602010000fde8" + nextHop + "800e1e" + reachHop + "00000009 2020010db8 00000001 080a",
+			"0000 0031 40010103 40020602010000fde8" + nextHop + "800e1a" + reachHop + "2020010db8 080a", Withdraw, []uint32{9, 1}},
+		{identified(true, false), "0006 00000007 080a 0000", "0002 080a 0000", Update, []uint32{7}},
+		{identified(false, true), "0000 0014" + originPath + nextHop + "080a", "0000 0014" + originPath + nextHop + "080a", Update, []uint32{0}},
+		{identified(true, true), "0000 0000", "0000 0000", Update, []uint32{}},
+		{identified(false, false), "0000 0014" + originPath + nextHop + "080a", "0000 0014" + originPath + nextHop + "080a", Update, []uint32{0}},
+	} {
+		octets, plain := message(2, digits(it.with)), judgedAs(t, message(2, digits(it.plain)), both)
+		found := judgedPaths(t, it.terms, octets)
+		if found.Verdict() != it.verdict || !reflect.DeepEqual(told(found), told(plain)) || !reflect.DeepEqual(found.Facts(), plain.Facts()) {
+			t.Errorf("%v instead of %v", told(found), told(plain))
+		}
+		routes, lost := found.Routes()
+		paths, err := Paths(*found.Terms(), found.Received())
+		if lost || len(routes) != len(paths) || !reflect.DeepEqual(paths, it.paths) || err != nil {
+			t.Errorf("%v, %v, %v and %v", routes, lost, paths, err)
+		}
+	}
+}
+
+// An attribute that is data of the NOTIFICATION is the one that was received (RFC 7606, section 5.3).
+func TestJudgePathsResets(t *testing.T) {
+	ip4, ip6 := identified(true, false), identified(false, true)
+	for _, it := range []struct {
+		terms   Terms
+		body    string
+		subcode uint8
+		data    string
+	}{
+		// In MP_REACH_NLRI length 129 after an identifier, and in MP_UNREACH_NLRI an identifier without a prefix.
+		{ip6, "0000 003b 800e2b" + reachHop + "00000001 81" + strings.Repeat("00", 17) + originPath, 9, "800e2b" + reachHop + "00000001 81" + strings.Repeat("00", 17)},
+		{ip6, "0000 000a 800f07 000201 00000001", 9, "800f07 000201 00000001"},
+		{identified(true, true), "0006 00000001 080a 000a 800f07 000201 00000001", 9, "800f07 000201 00000001"},
+		// In the longest message 813 times ::/0, and one octet of an identifier.
+		{ip6, "0000 0fe9 900f0fe5 000201" + strings.Repeat("0000000100", 813) + "00", 9, "900f0fe5 000201" + strings.Repeat("0000000100", 813) + "00"},
+		// Without data: in NLRI an identifier without a prefix, three octets of one, and none; and where no identifiers are agreed on.
+		{ip4, "0000 0014" + originPath + nextHop + "00000001", 10, ""},
+		{ip4, "0000 0014" + originPath + nextHop + "000000", 10, ""},
+		{ip4, "0000 0014" + originPath + nextHop + "080a 080b", 10, ""},
+		{identified(false, false), "0000 0014" + originPath + nextHop + "00000001 080a", 10, ""},
+		{ip4, "0008 00000007 0000", 1, ""},
+	} {
+		found := judgedPaths(t, it.terms, message(2, digits(it.body)))
+		if wanted := (Said{3, it.subcode, digits(it.data)}); found.Verdict() != Reset || !reflect.DeepEqual(found.Notification(), &wanted) {
+			t.Errorf("%v, %+v instead of %+v", found.Verdict(), found.Notification(), wanted)
+		}
+		if paths, err := Paths(it.terms, found.Received()); paths != nil || !errors.Is(err, ErrRefused) {
+			t.Errorf("%v and %v", paths, err)
+		}
+	}
+}
+
+// Each other message is as JudgeIn has it, and so is a header with a fault.
+func TestJudgePathsOthers(t *testing.T) {
+	badMarker := message(5, digits("0001 00 01"))
+	badMarker[0] = 0
+	for _, octets := range [][]byte{
+		opened("450400010103"), message(1, digits("03 fde9 005a c0000201 00")), message(3, digits("0602 07")), message(4, nil),
+		message(5, digits("0001 00 01")), message(5, digits("0001 01 01 00")), message(5, digits("0001")), message(6, nil), badMarker,
+	} {
+		for refresh := RefreshNone; refresh <= RefreshEnhanced; refresh++ {
+			wanted, err := JudgeIn(termsBy(refresh), octets)
+			if err != nil {
+				t.Fatal(err)
+			}
+			for _, terms := range []Terms{{Paths4: true, Paths6: true}, {Paths6: true}, {}} {
+				terms.Context, terms.Refresh = both, refresh
+				found, err := JudgePaths(terms, octets)
+				if err != nil || !reflect.DeepEqual(told(found), told(wanted)) || !reflect.DeepEqual(found.Refresh(), wanted.Refresh()) {
+					t.Errorf("%v and %v instead of %v", found, err, wanted)
+				}
+				if !bytes.Equal(found.Received(), wanted.Octets()) || !bytes.Equal(wanted.Received(), wanted.Octets()) || *found.Terms() != terms {
+					t.Errorf("%x and %+v instead of %x", found.Received(), found.Terms(), wanted.Octets())
+				}
+			}
+		}
+	}
+	for _, octets := range [][]byte{nil, message(4, nil)[:18]} {
+		if found, err := JudgePaths(identified(true, true), octets); found != nil || !errors.Is(err, ErrIncomplete) {
+			t.Errorf("%v and %v", found, err)
+		}
+		if found, err := JudgePaths(Terms{Refresh: 3}, octets); found != nil || !errors.Is(err, ErrTerms) {
+			t.Errorf("%v and %v", found, err)
+		}
+	}
+}
+
+// No message is judged by JudgeIn where routes have path identifiers, or where a number is none of those that are named.
 func TestTermsOutOfRange(t *testing.T) {
 	for _, terms := range []Terms{{Paths4: true}, {Refresh: RefreshPlain, Paths6: true}, {Refresh: 3}, {Refresh: 255}} {
 		for _, octets := range [][]byte{nil, message(4, nil), message(5, digits("0001 00 01"))} {

@@ -11,8 +11,8 @@ pub struct Agreed {
 
 /// What two speakers agree on, given octets that begin with the OPEN of each, as each of them finds
 /// it, and as `bgp show --opens` does. `None` where one of them isn't an accepted OPEN; neither is
-/// refused for what it says: refuse a direction for which both agree on path identifiers
-/// (capability 69; RFC 7911) before reading on, since its routes aren't supported here.
+/// refused for what it says: a direction for which both agree on path identifiers (capability 69;
+/// RFC 7911) is read by the terms of [`terms_of`](crate::terms_of).
 pub fn agree(ours: &[u8], theirs: &[u8]) -> Option<Agreed> {
     let (context, hold_time) = raw::agree(ours, theirs)?;
     let context = Context::of(&context);

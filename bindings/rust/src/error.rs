@@ -23,7 +23,7 @@ pub enum Error {
     /// There is room for less than [`ROWS`](crate::ROWS) rows.
     Room,
     /// By [`Terms`](crate::Terms) routes have path identifiers, which this call doesn't read:
-    /// [`without_paths`](crate::without_paths) takes them from a message.
+    /// [`judge_paths`](crate::judge_paths) does.
     Paths,
 }
 

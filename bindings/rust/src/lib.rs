@@ -9,7 +9,8 @@
 //! written are copied.
 //!
 //! By the [`Terms`] that [`terms_of`] finds in two OPENs a ROUTE-REFRESH is a message too: see
-//! [`messages_in`] and [`DecoderIn`].
+//! [`messages_in`] and [`DecoderIn`]. Where routes have path identifiers, [`judge_paths`] reads a
+//! message.
 //!
 //! ```
 //! use ristulva::{Context, Outcome};
@@ -79,7 +80,9 @@ pub use message::{judge, messages, Message, Messages, Outcome};
 pub use note::{Note, Notes, Why};
 pub use open::{Capabilities, Capability, Open};
 pub use path::{Numbers, Segment, SegmentKind, Segments};
-pub use paths::{paths, without_paths, PATHS};
+pub use paths::{
+    judge_paths, paths, without_paths, MessagePaths, UpdateOutcome, UpdatePaths, PATHS,
+};
 pub use prefix::{NextHop, Prefix, Prefixes, Shown};
 pub use refresh::{
     encode_refresh, front_in, judge_in, messages_in, MessageIn, MessagesIn, Refresh,

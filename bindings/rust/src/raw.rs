@@ -121,6 +121,7 @@ extern "C" {
     fn ristulva_text_in(terms: *const Terms, place: u64, octets: *const u8, len: usize, text: *mut c_char, room: usize, written: *mut usize) -> u32;
     fn ristulva_refresh_in(terms: *const Terms, octets: *const u8, len: usize, out: *mut Refresh) -> u32;
     fn ristulva_encode_refresh(afi: u16, safi: u8, subtype: u8, message: *mut u8, room: usize, written: *mut usize) -> u32;
+    fn ristulva_judge_paths(terms: *const Terms, octets: *const u8, len: usize, data: *mut u8, room: usize, out: *mut Verdict) -> u32;
     fn ristulva_without_paths(terms: *const Terms, octets: *const u8, len: usize, message: *mut u8, room: usize, written: *mut usize) -> u32;
     fn ristulva_paths(terms: *const Terms, octets: *const u8, len: usize, paths: *mut u32, room: usize, written: *mut usize) -> u32;
     fn ristulva_decoder_new(context: *const Context, decoder: *mut Handle) -> u32;
@@ -548,6 +549,16 @@ pub fn encode_refresh(afi: u16, safi: u8, subtype: u8) -> [u8; REFRESH_MESSAGE] 
     // SAFETY: see above. There is room for it.
     unsafe { ristulva_encode_refresh(afi, safi, subtype, into, room, &mut written) };
     message
+}
+
+/// The status, and the verdict, which is none where the octets are incomplete.
+pub fn judge_paths(terms: &Terms, octets: &[u8], data: &mut [u8]) -> (u32, Verdict) {
+    let mut out = Verdict::default();
+    let (at, len) = (octets.as_ptr(), octets.len());
+    // SAFETY: see above.
+    let status =
+        unsafe { ristulva_judge_paths(terms, at, len, data.as_mut_ptr(), data.len(), &mut out) };
+    (status, out)
 }
 
 /// The status, and the length of the message where that is OK or ROOM.

@@ -27,7 +27,7 @@ pub struct Terms {
     /// The sender does: NOTIFICATIONs to it may be that long.
     pub long_back: bool,
     /// IPv4 unicast routes have path identifiers (capability 69; RFC 7911):
-    /// [`paths`](crate::paths) reads them.
+    /// [`judge_paths`](crate::judge_paths) reads such a message.
     pub paths4: bool,
     /// IPv6 unicast routes have path identifiers.
     pub paths6: bool,
@@ -51,6 +51,15 @@ impl Terms {
             paths4: told.paths4 != 0,
             paths6: told.paths6 != 0,
             hop6: told.hop6 != 0,
+        }
+    }
+
+    /// The same, but for path identifiers, which no route has.
+    pub(crate) fn plain(&self) -> Terms {
+        Terms {
+            paths4: false,
+            paths6: false,
+            ..*self
         }
     }
 

@@ -1,9 +1,10 @@
 //! Terms and ROUTE-REFRESH: values by hand (RFC 2918; RFC 7313).
 
 use ristulva::{
-    encode_refresh, front, front_in, judge, judge_in, messages_in, paths, terms_of, without_paths,
-    AgreedTerms, Context, Decoder, DecoderIn, Error, Front, Kind, KindIn, MessageIn, Outcome,
-    Refresh, RefreshOutcome, Refreshes, RouteRefresh, Subtype, Terms, REFRESH_MESSAGE,
+    encode_refresh, front, front_in, judge, judge_in, judge_paths, messages_in, paths, terms_of,
+    without_paths, AgreedTerms, Context, Decoder, DecoderIn, Error, Front, Kind, KindIn, MessageIn,
+    MessagePaths, Outcome, Refresh, RefreshOutcome, Refreshes, RouteRefresh, Subtype, Terms,
+    UpdateOutcome, UpdatePaths, REFRESH_MESSAGE,
 };
 
 const CONTEXT: Context = Context {
@@ -126,6 +127,15 @@ fn path_identifiers() {
     );
 }
 
+/// In the same context, by terms by which routes of these families have path identifiers.
+fn identified(paths4: bool, paths6: bool) -> Terms {
+    Terms {
+        paths4,
+        paths6,
+        ..terms(Refreshes::None)
+    }
+}
+
 /// Path 9 of 2001:db8::/32 and path 1 of 10.0.0.0/8, by 192.0.2.1 and 2001:db8::1.
 const WITH_PATHS: &[u8] = &[
     0, 0, 0, 53, 64, 1, 1, 0, 64, 2, 6, 2, 1, 0, 0, 0xfd, 0xe8, 64, 3, 4, 192, 0, 2, 1, 128, 14,
@@ -137,12 +147,7 @@ const WITH_PATHS: &[u8] = &[
 #[test]
 fn paths_beside_routes() {
     let octets = message(2, WITH_PATHS);
-    let (paths4, paths6) = (true, true);
-    let both = Terms {
-        paths4,
-        paths6,
-        ..terms(Refreshes::None)
-    };
+    let both = identified(true, true);
     let plain = without_paths(&both, &octets).unwrap().expect("a message");
     assert_eq!(plain.len() + 8, octets.len());
     let judged = judge(&CONTEXT, &plain).expect("a message");
@@ -163,6 +168,176 @@ fn paths_beside_routes() {
     assert_eq!(paths(&both, &request), Err(Error::Refused));
     let cut = message(2, &[0, 4, 0, 0, 0, 1, 0, 0]);
     assert_eq!(paths(&both, &cut), Err(Error::Refused));
+}
+
+/// The UPDATE that octets are, by terms with path identifiers: octets after it are ignored, and it is
+/// incomplete with one octet less.
+fn update<'a>(terms: &Terms, octets: &'a [u8]) -> UpdatePaths<'a> {
+    let Some(MessagePaths::Update(update)) = judge_paths(terms, octets) else {
+        panic!("{octets:?} is no UPDATE");
+    };
+    let more = [octets, &[255]].concat();
+    let again = judge_paths(terms, &more);
+    assert_eq!(again, Some(MessagePaths::Update(update.clone())));
+    assert_eq!(judge_paths(terms, &octets[..octets.len() - 1]), None);
+    assert_eq!(update.octets(), octets);
+    update
+}
+
+/// The session ends by an UPDATE with this body; of its octets these are the data.
+fn is_answered(terms: &Terms, body: &[u8], subcode: u8, data: std::ops::Range<usize>) {
+    let octets = message(2, body);
+    let (code, data) = (3, octets[data].to_vec());
+    let update = update(terms, &octets);
+    let wanted = UpdateOutcome::Reset {
+        code,
+        subcode,
+        data,
+    };
+    assert_eq!(update.outcome(), &wanted);
+    assert!(MessagePaths::Update(update).is_reset());
+}
+
+/// ORIGIN and AS_PATH, NEXT_HOP, and the value of MP_REACH_NLRI up to its routes.
+const PAIR: &[u8] = &[64, 1, 1, 0, 64, 2, 6, 2, 1, 0, 0, 0xfd, 0xe8];
+const HOP: &[u8] = &[64, 3, 4, 192, 0, 2, 1];
+const REACH: &[u8] = &[
+    0, 2, 1, 16, 0x20, 1, 0xd, 0xb8, 0, 0, 0, 0, 0, 0, 0, 0, 0, 0, 0, 1, 0,
+];
+
+/// Outcome and parts of an UPDATE with path identifiers (RFC 7911, section 3) are those of its octets
+/// as they were received; each family has them for itself (section 4).
+#[test]
+fn judged_with_paths() {
+    let octets = message(2, WITH_PATHS);
+    let accepted = update(&identified(true, true), &octets);
+    assert_eq!(accepted.outcome(), &UpdateOutcome::Accepted);
+    assert_eq!(accepted.withdrawn(), &[]);
+    assert_eq!(accepted.attributes(), &WITH_PATHS[4..57]);
+    assert_eq!(accepted.nlri(), &[0, 0, 0, 1, 8, 10]);
+    // An ORIGIN without a meaning (RFC 7606, section 7.1), and routes that are withdrawn.
+    let mut bad = octets.clone();
+    bad[26] = 3;
+    let withdrawn = update(&identified(true, true), &bad);
+    assert_eq!(withdrawn.outcome(), &UpdateOutcome::Withdraw);
+    assert_eq!(withdrawn.attributes(), &bad[23..76]);
+    let octets = message(2, &[0, 6, 0, 0, 0, 7, 8, 10, 0, 0]);
+    let gone = update(&identified(true, false), &octets);
+    assert_eq!(gone.outcome(), &UpdateOutcome::Accepted);
+    assert_eq!(gone.withdrawn(), &[0, 0, 0, 7, 8, 10]);
+    assert_eq!((gone.attributes(), gone.nlri()), (&[][..], &[][..]));
+    let octets = message(2, &[&[0, 0, 0, 20], PAIR, HOP, &[8, 10]].concat());
+    let plain = update(&identified(false, true), &octets);
+    assert_eq!(plain.outcome(), &UpdateOutcome::Accepted);
+    assert_eq!(plain.nlri(), &[8, 10]);
+    assert!(!MessagePaths::Update(plain).is_reset());
+}
+
+/// An attribute that is data of the NOTIFICATION is the one that was received (RFC 7606, section
+/// 5.3).
+#[test]
+fn data_with_paths() {
+    let (ip4, ip6) = (identified(true, false), identified(false, true));
+    // In MP_REACH_NLRI length 129 after an identifier, and in MP_UNREACH_NLRI an identifier without
+    // a prefix.
+    let reach = [REACH, &[0, 0, 0, 1, 129], &[0; 17]].concat();
+    let body = [&[0, 0, 0, 59, 128, 14, 43], &reach[..], PAIR].concat();
+    is_answered(&ip6, &body, 9, 23..69);
+    let unreach = [128, 15, 7, 0, 2, 1, 0, 0, 0, 1];
+    is_answered(&ip6, &[&[0, 0, 0, 10], &unreach[..]].concat(), 9, 23..33);
+    let withdrawn = [0, 6, 0, 0, 0, 1, 8, 10, 0, 10];
+    let body = [&withdrawn, &unreach[..]].concat();
+    is_answered(&identified(true, true), &body, 9, 29..39);
+    // In the longest message 813 times ::/0, and one octet of an identifier.
+    let routes = [[0, 0, 0, 1, 0]; 813].concat();
+    let unreach = [&[144, 15, 15, 229, 0, 2, 1][..], &routes, &[0]].concat();
+    let body = [&[0, 0, 15, 233], &unreach[..]].concat();
+    is_answered(&ip6, &body, 9, 23..4096);
+    // Without data: in NLRI an identifier without a prefix, three octets of one, and none.
+    for nlri in [&[0, 0, 0, 1][..], &[0, 0, 0], &[8, 10, 8, 11]] {
+        let body = [&[0, 0, 0, 20], PAIR, HOP, nlri].concat();
+        is_answered(&ip4, &body, 10, 0..0);
+    }
+    // The same octets where no identifiers are agreed on, and lengths without room for each other,
+    // which leave no parts.
+    let none = identified(false, false);
+    let body = [&[0, 0, 0, 20], PAIR, HOP, &[0, 0, 0, 1, 8, 10]].concat();
+    is_answered(&none, &body, 10, 0..0);
+    is_answered(&ip4, &[0, 8, 0, 0, 0, 7, 0, 0], 1, 0..0);
+    let octets = message(2, &[0, 8, 0, 0, 0, 7, 0, 0]);
+    let update = update(&ip4, &octets);
+    let parts = [update.withdrawn(), update.attributes(), update.nlri()];
+    assert_eq!(parts, [&[][..]; 3]);
+}
+
+/// Each other message is as `judge_in` has it, and so is a header with a fault; by terms without path
+/// identifiers an UPDATE has the outcome that it has there.
+#[test]
+fn others_with_paths() {
+    let mut bad_marker = message(5, &[0, 1, 0, 1]);
+    bad_marker[0] = 0;
+    for octets in [
+        open(&[PATHS4]),
+        message(1, &[3, 0xfd, 0xe9, 0, 90, 192, 0, 2, 1, 0]),
+        message(3, &[6, 2, 7]),
+        message(4, &[]),
+        message(5, &[0, 1, 0, 1]),
+        message(5, &[0, 1, 1, 1, 0]),
+        message(5, &[0, 1]),
+        message(6, &[]),
+        bad_marker,
+    ] {
+        for refresh in [Refreshes::None, Refreshes::Plain, Refreshes::Enhanced] {
+            let plain = terms(refresh);
+            let wanted = judge_in(&plain, &octets).expect("no paths");
+            for (paths4, paths6) in [(true, true), (false, true), (false, false)] {
+                let with = Terms {
+                    paths4,
+                    paths6,
+                    ..plain
+                };
+                let found = judge_paths(&with, &octets).expect("a message");
+                assert_eq!(found.octets(), wanted.as_ref().unwrap().octets());
+                assert_eq!(found.is_reset(), wanted.as_ref().unwrap().is_reset());
+                assert_eq!(Some(found), wanted.clone().map(MessagePaths::Other));
+                assert_eq!(judge_paths(&with, &octets[..18]), None);
+            }
+        }
+    }
+    let body = [&[0, 0, 0, 20], PAIR, HOP, &[8, 10]].concat();
+    for body in [&body[..], &[0, 0, 0, 0], &[0, 2, 8, 10, 0, 0]] {
+        let octets = message(2, body);
+        let update = update(&terms(Refreshes::None), &octets);
+        let plain = judge(&CONTEXT, &octets).expect("a message");
+        assert!(matches!(plain.outcome(), Outcome::Update(_)));
+        assert_eq!(update.outcome(), &UpdateOutcome::Accepted);
+    }
+    assert_eq!(judge_paths(&identified(true, true), &[]), None);
+}
+
+/// A stream with path identifiers, message after message.
+#[test]
+fn streams_with_paths() {
+    let terms = Terms {
+        refresh: Refreshes::Plain,
+        ..identified(true, true)
+    };
+    let (update, request) = (message(2, WITH_PATHS), message(5, &[0, 1, 0, 1]));
+    let cut = message(2, &[0, 4, 0, 0, 0, 1, 0, 0]);
+    let octets = [&message(4, &[])[..], &update, &request, &update, &cut, &[7]].concat();
+    let (mut rest, mut lens) = (&octets[..], Vec::new());
+    while let Some(message) = judge_paths(&terms, rest) {
+        lens.push((message.octets().len(), message.is_reset()));
+        rest = &rest[message.octets().len()..];
+    }
+    let wanted = [
+        (19, false),
+        (82, false),
+        (23, false),
+        (82, false),
+        (27, true),
+    ];
+    assert_eq!((&lens[..], rest), (&wanted[..], &[7][..]));
 }
 
 #[test]
