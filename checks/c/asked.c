@@ -6,9 +6,9 @@
  * the first allocation would fail. It runs on 32 KB of stack, and ends with 1 at the first answer that the header doesn't allow. */
 #include "ristulva.h"
 #include "trial.h"
+#include "trial_changed.h"
+#include "trial_message.h"
 #include "trial_stack.h"
-#include <string.h>
-#include <sys/mman.h>
 
 #ifndef STACK
 #define STACK (32 * 1024)
@@ -21,27 +21,14 @@ struct octets {
     size_t len;
 };
 
-static unsigned digit(char c)
-{
-    return (unsigned)(c <= '9' ? c - '0' : c - 'a' + 10);
-}
-
 static void add(struct octets *to, const char *hex)
 {
-    for (; *hex != '\0'; hex += *hex == ' ' ? 1 : 2)
-        if (*hex != ' ')
-            to->at[to->len++] = (uint8_t)(digit(hex[0]) << 4 | digit(hex[1]));
+    to->len += octets_of(hex, to->at + to->len);
 }
 
-/* A message of a type: its header and its body. */
-static void make(struct octets *message, uint8_t kind, const char *body)
+static void make(struct octets *to, uint8_t kind, const char *body)
 {
-    message->len = 19;
-    memset(message->at, 255, 16);
-    add(message, body);
-    message->at[16] = (uint8_t)(message->len >> 8);
-    message->at[17] = (uint8_t)message->len;
-    message->at[18] = kind;
+    to->len = message(kind, body, to->at);
 }
 
 /* An UPDATE that withdraws 10.1.0.0/16, with these attributes, of this length, and 10.0.0.0/8 as its NLRI. */
@@ -311,18 +298,6 @@ static void by_hand_nothing(void)
 
 /* ---- octets and cursors at random ---- */
 
-static uint64_t state;
-
-static uint32_t below(uint32_t bound)
-{
-    state = state * 6364136223846793005u + 1442695040888963407u;
-    return (uint32_t)((state >> 33) % bound);
-}
-
-/* A buffer between two pieces of memory that can't be touched. */
-static uint8_t *place;
-#define PLACE 8192u
-
 static int lies_in(ristulva_span span, uint8_t has, const ristulva_verdict *verdict)
 {
     ristulva_span field = verdict->parts.attributes;
@@ -333,13 +308,11 @@ static void try_facts(const ristulva_context *context, const uint8_t *octets, si
 {
     ristulva_update_facts facts;
     ristulva_status status;
-    size_t i;
     memset(&facts, 0xa5, sizeof facts);
     status = ristulva_facts(context, octets, len, &facts);
     WANT(status == (judged == RISTULVA_INCOMPLETE ? RISTULVA_INCOMPLETE : verdict->verdict == RISTULVA_UPDATE ? RISTULVA_OK : RISTULVA_REFUSED));
     if (status != RISTULVA_OK) {
-        for (i = 0; i < sizeof facts; i++)
-            WANT(((const uint8_t *)&facts)[i] == 0xa5);
+        WANT(is_unwritten(&facts, sizeof facts));
         return;
     }
     WANT(lies_in(facts.paths.as_path, facts.paths.has_as_path, verdict) && lies_in(facts.paths.as4_path, facts.paths.has_as4_path, verdict));
@@ -380,8 +353,7 @@ static void try_routes(const ristulva_context *context, const uint8_t *octets, s
     status = ristulva_begin_routes(context, octets, len, &cursor);
     WANT(status == (judged == RISTULVA_INCOMPLETE ? RISTULVA_INCOMPLETE : RISTULVA_OK));
     if (status != RISTULVA_OK) {
-        for (i = 0; i < sizeof cursor; i++)
-            WANT(((const uint8_t *)&cursor)[i] == 0xa5);
+        WANT(is_unwritten(&cursor, sizeof cursor));
         return;
     }
     WANT(cursor.announces == (verdict->verdict == RISTULVA_UPDATE) && cursor.loses_ip6 <= (context->ip6 == 0));
@@ -412,9 +384,8 @@ static void try_all(const uint8_t *from, size_t len)
     ristulva_open_fields fields;
     ristulva_verdict verdict;
     ristulva_status judged, opened;
-    uint8_t *octets = below(4) == 0 ? place : place + PLACE - len;
+    const uint8_t *octets = placed(from, len);
     uint16_t hold = 1; /* which no OPEN that is accepted has */
-    memcpy(octets, from, len);
     judged = ristulva_judge(&context, octets, len, data, sizeof data, &verdict);
     try_facts(&context, octets, len, judged, &verdict);
     try_routes(&context, octets, len, judged, &verdict);
@@ -433,34 +404,9 @@ static void try_all(const uint8_t *from, size_t len)
              && hold == (fields.hold < 180 ? fields.hold : 180));
 }
 
-static uint8_t streams[1 << 20];
-static size_t size;
-
-static void load(const char *name)
-{
-    FILE *file = fopen(name, "rb");
-    WANT(file != NULL);
-    size += fread(streams + size, 1, sizeof streams - size, file);
-    fclose(file);
-}
-
-/* A message of a stream, changed at some offsets. */
-static size_t some_octets(uint8_t *octets)
-{
-    size_t at = below((uint32_t)size - 4200), len = below(4096), i;
-    while (at > 0 && memcmp(streams + at, "\377\377\377\377\377\377\377\377\377\377\377\377\377\377\377\377", 16) != 0)
-        at--;
-    memcpy(octets, streams + at, len);
-    for (i = below(4); i > 0 && len > 19; i--)
-        octets[19 + below((uint32_t)(len < 120 ? len : 120) - 19)] = (uint8_t)below(256);
-    return len;
-}
-
-static unsigned long rounds;
-
 static void *work(void *unused)
 {
-    static uint8_t octets[4096];
+    static uint8_t octets[RISTULVA_MESSAGE];
     unsigned long i;
     refused = 1;
     by_hand_facts();
@@ -469,23 +415,14 @@ static void *work(void *unused)
     by_hand_names();
     by_hand_nothing();
     for (i = 0; i < rounds; i++)
-        try_all(octets, some_octets(octets));
+        try_all(octets, change(octets, some_message(octets), 0));
     WANT(allocations == 0);
     return unused;
 }
 
 int main(int argc, char **argv)
 {
-    uint8_t *pages = mmap(NULL, PLACE * 3, PROT_NONE, MAP_PRIVATE | MAP_ANONYMOUS, -1, 0);
-    int i;
-    WANT(argc >= 3 && pages != MAP_FAILED);
-    place = pages + PLACE;
-    WANT(mprotect(place, PLACE, PROT_READ | PROT_WRITE) == 0);
-    state = strtoull(argv[1], NULL, 10);
-    rounds = strtoul(argv[2], NULL, 10);
-    for (i = 3; i < argc; i++)
-        load(argv[i]);
-    WANT(size > 4200);
+    begin(argc, argv);
     run_on_stack(work, STACK);
     return 0;
 }

@@ -7,6 +7,7 @@
  * made, and ends with 1 at the first answer that the header doesn't allow. */
 #include "ristulva.h"
 #include "trial.h"
+#include "trial_chance.h"
 #include "trial_stack.h"
 #include <string.h>
 
@@ -15,14 +16,6 @@
 #endif
 
 static unsigned long calls;
-
-static uint64_t state = 1;
-
-static uint32_t below(uint32_t bound)
-{
-    state = state * 6364136223846793005u + 1442695040888963407u;
-    return (uint32_t)((state >> 33) % bound);
-}
 
 /* ---- a stream, and what ristulva_judge reports of it ---- */
 

@@ -5,12 +5,13 @@
  * Each status of the calls, with what is written and what is unchanged. Then messages of the files, changed at random, by random terms: what
  * ristulva_without_paths writes is a message, no longer than it was, and ristulva_paths has a number for each route of it; where routes have no
  * identifiers it is the message itself, and each number is 0. UPDATEs whose routes get identifiers are what they were without them. Octets lie beside
- * memory that can't be read. Nothing allocates. It runs on 32 KB of stack, and again on 56 KB with ristulva_judge_paths, and ends with 1 at the first answer that the header doesn't allow. */
+ * memory that can't be read. Nothing allocates. It runs on 32 KB of stack, and again on 56 KB with ristulva_judge_paths, and ends with 1 at the first
+ * answer that the header doesn't allow. */
 #include "ristulva.h"
 #include "trial.h"
+#include "trial_changed.h"
 #include "trial_message.h"
 #include "trial_stack.h"
-#include <sys/mman.h>
 
 #ifndef STACK
 #define STACK (32 * 1024)
@@ -35,12 +36,20 @@ static uint8_t written_octets[RISTULVA_MESSAGE + 1];
 static uint32_t written_paths[RISTULVA_PATHS + 1];
 static size_t count;
 
-static int is_left(const void *at, size_t size)
+/* A call wrote the first `wrote` octets, and none after them, where its status is RISTULVA_OK; else none. */
+static void writes(ristulva_status status, const void *at, size_t size, size_t wrote, size_t room)
 {
-    const uint8_t *octets = at;
-    while (size > 0 && octets[size - 1] == 0xa5)
-        size--;
-    return size == 0;
+    calls++;
+    WANT(status == RISTULVA_OK || is_unwritten(at, size));
+    WANT(status != RISTULVA_OK || (wrote <= room && is_unwritten((const uint8_t *)at + wrote, size - wrote)));
+}
+
+/* The same of a call that counts the elements of a list. */
+static ristulva_status counted(ristulva_status status, const void *list, size_t size, size_t element, size_t room)
+{
+    writes(status, list, size, count * element, room * element);
+    WANT(status == RISTULVA_OK || status == RISTULVA_ROOM || count == 77);
+    return status;
 }
 
 static ristulva_status without(const ristulva_terms *terms, const uint8_t *octets, size_t len, size_t room)
@@ -48,12 +57,8 @@ static ristulva_status without(const ristulva_terms *terms, const uint8_t *octet
     ristulva_status status;
     memset(written_octets, 0xa5, sizeof written_octets);
     count = 77;
-    calls++;
     status = ristulva_without_paths(terms, len != 0 ? octets : NULL, len, room != 0 ? written_octets : NULL, room, &count);
-    WANT(status == RISTULVA_OK || is_left(written_octets, sizeof written_octets));
-    WANT(status != RISTULVA_OK || (count <= room && is_left(written_octets + count, sizeof written_octets - count)));
-    WANT(status == RISTULVA_OK || status == RISTULVA_ROOM || count == 77);
-    return status;
+    return counted(status, written_octets, sizeof written_octets, 1, room);
 }
 
 static ristulva_status paths(const ristulva_terms *terms, const uint8_t *octets, size_t len, size_t room)
@@ -61,12 +66,8 @@ static ristulva_status paths(const ristulva_terms *terms, const uint8_t *octets,
     ristulva_status status;
     memset(written_paths, 0xa5, sizeof written_paths);
     count = 77;
-    calls++;
     status = ristulva_paths(terms, len != 0 ? octets : NULL, len, room != 0 ? written_paths : NULL, room, &count);
-    WANT(status == RISTULVA_OK || is_left(written_paths, sizeof written_paths));
-    WANT(status != RISTULVA_OK || (count <= room && is_left(written_paths + count, sizeof written_paths - count * sizeof *written_paths)));
-    WANT(status == RISTULVA_OK || status == RISTULVA_ROOM || count == 77);
-    return status;
+    return counted(status, written_paths, sizeof written_paths, sizeof *written_paths, room);
 }
 
 /* Judges octets where routes may have path identifiers, in the second run. */
@@ -79,11 +80,9 @@ static ristulva_status judged(const ristulva_terms *terms, const uint8_t *octets
     ristulva_status status;
     memset(said, 0xa5, sizeof said);
     memset(&reported, 0xa5, sizeof reported);
-    calls++;
     status = ristulva_judge_paths(terms, len != 0 ? octets : NULL, len, room != 0 ? said : NULL, room, &reported);
-    WANT(status == RISTULVA_OK || is_left(said, sizeof said));
-    WANT(status != RISTULVA_OK || (reported.data_len <= room && is_left(said + reported.data_len, sizeof said - reported.data_len)));
-    WANT(status == RISTULVA_OK || status == RISTULVA_ROOM || is_left(&reported, sizeof reported));
+    writes(status, said, sizeof said, reported.data_len, room);
+    WANT(status == RISTULVA_OK || status == RISTULVA_ROOM || is_unwritten(&reported, sizeof reported));
     return status;
 }
 
@@ -203,17 +202,6 @@ static void by_hand_statuses(void)
 
 /* ---- at random ---- */
 
-static uint64_t state;
-
-static uint32_t below(uint32_t bound)
-{
-    state = state * 6364136223846793005u + 1442695040888963407u;
-    return (uint32_t)((state >> 33) % bound);
-}
-
-#define PLACE ((size_t)8192)
-static uint8_t *place;
-
 static size_t routes_of(const ristulva_context *context, const uint8_t *octets, size_t len)
 {
     ristulva_route_cursor cursor;
@@ -321,31 +309,6 @@ static void try_identified(const uint8_t *octets, size_t len)
         WANT(written_paths[i] == i);
 }
 
-static uint8_t streams[1 << 20];
-static size_t loaded;
-
-static void load(const char *name)
-{
-    FILE *file = fopen(name, "rb");
-    WANT(file != NULL);
-    loaded += fread(streams + loaded, 1, sizeof streams - loaded, file);
-    fclose(file);
-}
-
-/* A message of a stream, perhaps changed at some offsets. */
-static size_t some_octets(uint8_t *octets)
-{
-    size_t at = below((uint32_t)loaded - 4200), len = below(4097), i;
-    while (at > 0 && memcmp(streams + at, "\377\377\377\377\377\377\377\377\377\377\377\377\377\377\377\377", 16) != 0)
-        at--;
-    memcpy(octets, streams + at, len);
-    for (i = below(4); i > 0 && len > 19; i--)
-        octets[below(4) == 0 ? 16 + below(3) : 19 + below((uint32_t)(len < 120 ? len : 120) - 19)] = (uint8_t)below(256);
-    return len;
-}
-
-static unsigned long rounds;
-
 static void *work(void *unused)
 {
     static uint8_t octets[RISTULVA_MESSAGE];
@@ -357,11 +320,10 @@ static void *work(void *unused)
     by_hand_others();
     by_hand_statuses();
     for (i = 0; i < rounds; i++) {
-        size_t len = some_octets(octets);
-        uint8_t *given = below(4) == 0 ? place : place + PLACE - len;
+        size_t len = change(octets, some_message(octets), 4);
+        const uint8_t *given = placed(octets, len);
         const ristulva_context context = {(uint8_t)below(2), (uint8_t)(below(3) * 100), (uint8_t)below(2), (uint8_t)below(2)};
         const ristulva_terms terms = {context, (uint8_t)below(3), 0, 0, (uint8_t)below(3), (uint8_t)below(3), 0};
-        memcpy(given, octets, len);
         try_octets(&terms, given, len);
         try_identified(given, len);
     }
@@ -371,16 +333,7 @@ static void *work(void *unused)
 
 int main(int argc, char **argv)
 {
-    uint8_t *pages = mmap(NULL, PLACE * 3, PROT_NONE, MAP_PRIVATE | MAP_ANONYMOUS, -1, 0);
-    int i;
-    WANT(argc >= 3 && pages != MAP_FAILED);
-    place = pages + PLACE;
-    WANT(mprotect(place, PLACE, PROT_READ | PROT_WRITE) == 0);
-    state = strtoull(argv[1], NULL, 10);
-    rounds = strtoul(argv[2], NULL, 10);
-    for (i = 3; i < argc; i++)
-        load(argv[i]);
-    WANT(loaded > 4200);
+    begin(argc, argv);
     run_on_stack(work, STACK);
     judges = 1;
     run_on_stack(work, JUDGING_STACK);

@@ -9,6 +9,7 @@
  * answer that the header doesn't allow. */
 #include "ristulva.h"
 #include "trial.h"
+#include "trial_chance.h"
 #include "trial_message.h"
 #include "trial_stack.h"
 
@@ -17,14 +18,6 @@
 #endif
 
 static unsigned long calls;
-
-static uint64_t state = 1;
-
-static uint32_t below(uint32_t bound)
-{
-    state = state * 6364136223846793005u + 1442695040888963407u;
-    return (uint32_t)((state >> 33) % bound);
-}
 
 /* ---- a stream, and what ristulva_judge_in reports of it ---- */
 

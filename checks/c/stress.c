@@ -12,7 +12,6 @@
 #include "trial_stack.h"
 #include "stress_place.h"
 #include "stress_told.h"
-#include <string.h>
 
 #ifndef STACK
 #define STACK (32 * 1024)
@@ -757,27 +756,16 @@ static void try_all(const uint8_t *from, size_t len)
 
 /* ---- octets ---- */
 
-static uint8_t streams[1 << 20];
-static size_t size;
-
-static void load(const char *name)
-{
-    FILE *file = fopen(name, "rb");
-    WANT(file != NULL);
-    size += fread(streams + size, 1, sizeof streams - size, file);
-    fclose(file);
-}
-
 /* A message of a stream, changed at some offsets, or octets after a header. */
 static size_t some_octets(uint8_t *octets)
 {
     size_t len = below(4096), i;
-    if (below(2) == 0 && size > 4200) {
-        size_t at = below((uint32_t)size - 4200), step;
+    if (below(2) == 0 && loaded > 4200) {
+        size_t at = below((uint32_t)loaded - 4200), step;
         for (step = 0; step < 4096 && memcmp(streams + at, "\377\377\377\377\377\377\377\377\377\377\377\377\377\377\377\377", 16) != 0; step++)
             at++;
-        if (at + len > size)
-            len = size - at;
+        if (at + len > loaded)
+            len = loaded - at;
         memcpy(octets, streams + at, len);
         for (i = below(5); i > 0 && len > 19; i--)
             octets[19 + below((uint32_t)len - 19)] = (uint8_t)below(256);
@@ -852,8 +840,6 @@ static void try_large_communities(uint8_t *octets)
     try_all(octets, len);
 }
 
-static unsigned long rounds;
-
 static void *work(void *unused)
 {
     static uint8_t octets[4096];
@@ -872,14 +858,9 @@ static void *work(void *unused)
 
 int main(int argc, char **argv)
 {
-    int i;
-    WANT(argc >= 3);
     WANT(ristulva_version() == RISTULVA_VERSION);
-    state = strtoull(argv[1], NULL, 10);
-    rounds = strtoul(argv[2], NULL, 10);
-    for (i = 3; i < argc; i++)
-        load(argv[i]);
-    make_places();
+    begin(argc, argv);
+    make_list_place();
     for (cleans = 0; cleans <= 1; cleans++) {
         run_on_stack(work, cleans ? MORE_STACK : STACK);
     }

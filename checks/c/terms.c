@@ -9,9 +9,9 @@
  * allow. */
 #include "ristulva.h"
 #include "trial.h"
+#include "trial_changed.h"
 #include "trial_message.h"
 #include "trial_stack.h"
-#include <sys/mman.h>
 
 #ifndef STACK
 #define STACK (32 * 1024)
@@ -21,14 +21,6 @@
 static unsigned long calls;
 
 static const ristulva_context all = {0, 1, 1, 1};
-
-static int is_unwritten(const void *at, size_t size)
-{
-    const uint8_t *octets = at;
-    while (size > 0 && octets[size - 1] == 0xa5)
-        size--;
-    return size == 0;
-}
 
 static ristulva_terms terms_by(uint8_t refresh)
 {
@@ -421,18 +413,6 @@ static void by_hand_writing(void)
 
 /* ---- at random ---- */
 
-static uint64_t state;
-
-static uint32_t below(uint32_t bound)
-{
-    state = state * 6364136223846793005u + 1442695040888963407u;
-    return (uint32_t)((state >> 33) % bound);
-}
-
-/* A buffer of which the first and the last octet lie beside memory that can't be touched. */
-static uint8_t *place;
-#define PLACE 8192u
-
 /* What a whole ROUTE-REFRESH says of itself: the code and subcode of the NOTIFICATION that answers it, code 0 for none. */
 static unsigned answer_to(uint8_t refreshes, const uint8_t *octets, size_t len)
 {
@@ -579,24 +559,10 @@ static void try_agreement(const uint8_t *octets, size_t len)
     WANT(reads || terms.hop6 == 0);
 }
 
-static uint8_t streams[1 << 20];
-static size_t loaded;
-
-static void load(const char *name)
-{
-    FILE *file = fopen(name, "rb");
-    WANT(file != NULL);
-    loaded += fread(streams + loaded, 1, sizeof streams - loaded, file);
-    fclose(file);
-}
-
 /* A message of a stream, changed at some offsets, and often a ROUTE-REFRESH, whose length is one of many or close to that of its header. */
 static size_t some_octets(uint8_t *octets)
 {
-    size_t at = below((uint32_t)loaded - 4200), len = below(4097), i;
-    while (at > 0 && memcmp(streams + at, "\377\377\377\377\377\377\377\377\377\377\377\377\377\377\377\377", 16) != 0)
-        at--;
-    memcpy(octets, streams + at, len);
+    size_t len = some_message(octets);
     if (below(2) == 0 && len > 22) {
         size_t size = below(3) == 0 ? 19 + below(4078) : 19 + below(8);
         octets[18] = 5;
@@ -604,12 +570,8 @@ static size_t some_octets(uint8_t *octets)
         octets[17] = (uint8_t)size;
         octets[21] = (uint8_t)below(4);
     }
-    for (i = below(4); i > 0 && len > 19; i--)
-        octets[below(2) == 0 ? 16 + below(3) : 19 + below((uint32_t)(len < 120 ? len : 120) - 19)] = (uint8_t)below(256);
-    return len;
+    return change(octets, len, 2);
 }
-
-static unsigned long rounds;
 
 static void *work(void *unused)
 {
@@ -625,10 +587,9 @@ static void *work(void *unused)
     by_hand_writing();
     for (i = 0; i < rounds; i++) {
         size_t len = some_octets(octets);
-        uint8_t *given = below(4) == 0 ? place : place + PLACE - len;
+        const uint8_t *given = placed(octets, len);
         const ristulva_context context = {(uint8_t)below(2), (uint8_t)(below(3) * 100), (uint8_t)below(2), (uint8_t)below(2)};
         const ristulva_terms terms = {context, (uint8_t)below(3), (uint8_t)below(2), (uint8_t)below(256), 0, 0, (uint8_t)below(2)};
-        memcpy(given, octets, len);
         try_terms(&terms, given, len);
         try_agreement(given, len);
     }
@@ -638,16 +599,7 @@ static void *work(void *unused)
 
 int main(int argc, char **argv)
 {
-    uint8_t *pages = mmap(NULL, PLACE * 3, PROT_NONE, MAP_PRIVATE | MAP_ANONYMOUS, -1, 0);
-    int i;
-    WANT(argc >= 3 && pages != MAP_FAILED);
-    place = pages + PLACE;
-    WANT(mprotect(place, PLACE, PROT_READ | PROT_WRITE) == 0);
-    state = strtoull(argv[1], NULL, 10);
-    rounds = strtoul(argv[2], NULL, 10);
-    for (i = 3; i < argc; i++)
-        load(argv[i]);
-    WANT(loaded > 4200);
+    begin(argc, argv);
     run_on_stack(work, STACK);
     printf("%lu calls\n", calls);
     return 0;
