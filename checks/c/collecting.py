@@ -520,7 +520,8 @@ def try_no_reader(made, report):
         collector.settle()
         told = [line for line in collector.lines if line.startswith("left out ")]
         out = sum(int(line.split()[2]) for line in told)
-        whole = all(line in (peer.up(), *lines, "+ 203.0.113.0/24 path 65001") for line in collector.of(peer.name))
+        wanted = {peer.up(), *lines, "+ 203.0.113.0/24 path 65001"}
+        whole = all(line in wanted for line in collector.of(peer.name))
         came = len(collector.of(peer.name)) - 2
         report("lines are left out", whole and told != [] and out + came == 80 * len(lines), f"{out} and {came} of {80 * len(lines)}")
         collector.interrupt(signal.SIGTERM)
