@@ -252,10 +252,7 @@ fn no_open_to_agree_with(rt: HostRuntime) -> Result<(), Fail> {
 
 #[test]
 fn path_identifiers_are_not_read(rt: HostRuntime) -> Result<(), Fail> {
-    for way in [Way::Narrow, Way::Clean] {
-        assert_no_context(&rt, way, SENDS, READS, NoContext::Paths)?;
-    }
-    Ok(())
+    assert_no_context(&rt, Way::Clean, SENDS, READS, NoContext::Paths)
 }
 
 /// What is written of a stream in which paths 1 of 2001:db8::/32 and 2 of ::/0 are withdrawn ends so.
@@ -288,7 +285,8 @@ fn path_identifiers_are_read(rt: HostRuntime) -> Result<(), Fail> {
         &rt,
         Way::Check,
         "messages 2 took 2 withdraw 0 reset 0\nend wait 0\n",
-    )
+    )?;
+    assert_paths(&rt, Way::Narrow, "")
 }
 
 /// A reader that fails before the first message is complete is reported, whatever the other direction has.
